@@ -1,0 +1,68 @@
+-- Laws of decision lists and of the first number that passes a test. Assumes nothing.
+use mathlib.Core.Path.{_≡_, refl, sym, _∙_, ap, subst}
+use mathlib.Core.Bool.{Bool, true, false}
+use mathlib.Core.List.{List, [], _∷_, _++_}
+use mathlib.Core.Logic.{⊎-elim}
+use Prim.Native.Nat.{ℕ, zero, suc, _+_, _<_, _≤_, _-_}
+use native.Mathlib.Nat.{zero-add, add-zero, sub-self, eq-or-lt-of-le}
+use native.Mathlib.Omega.{arith}
+use Rattle.words.specs.Decide.{pick, Line, _⇒_, decide, firstFrom, first}
+
+-- a list of checks, then more of them
+pub decide-append : {A : Type 0} (xs ys : List (Line A)) (a : A) → decide (xs ++ ys) a ≡ decide xs (decide ys a)
+decide-append [] ys a = refl
+decide-append ((test ⇒ answer) ∷ xs) ys a = ap (pick test answer) (decide-append xs ys a)
+
+-- the test fails at i: the search goes on behind i
+pub first-miss : (test : ℕ → Bool) (i n : ℕ) → i < n → test i ≡ false → firstFrom test i (n - i) ≡ firstFrom test (i + 1) (n - (i + 1))
+unfolding firstFrom
+first-miss test i n h e = let one-more : n - i ≡ suc (n - (i + 1)) = omega arith in rw (one-more, e)
+
+-- the test holds at i
+pub first-hit : (test : ℕ → Bool) (i n : ℕ) → i < n → test i ≡ true → firstFrom test i (n - i) ≡ i
+unfolding firstFrom
+first-hit test i n h e = let one-more : n - i ≡ suc (n - (i + 1)) = omega arith in rw (one-more, e)
+
+-- nothing is left to search
+pub first-end : (test : ℕ → Bool) (n : ℕ) → firstFrom test n (n - n) ≡ n
+unfolding firstFrom
+first-end test n = rw (sub-self n)
+
+-- what holds of both choices holds of the one that is picked
+pub pick-case : {A : Type 0} (b : Bool) (x y : A) (P : A → Type 0) → (b ≡ true → P x) → (b ≡ false → P y) → P (pick b x y)
+pick-case true x y P hit miss = hit refl
+pick-case false x y P hit miss = miss refl
+
+pub first-least : (test : ℕ → Bool) (i n : ℕ) → i ≤ firstFrom test i n
+unfolding firstFrom
+first-least test i zero = omega arith
+first-least test i (suc n) = pick-case (test i) i (firstFrom test (i + 1) n) (λ (r : ℕ). i ≤ r) (λ e. omega arith) (λ e. omega (arith, first-least test (i + 1) n))
+
+pub first-most : (test : ℕ → Bool) (i n : ℕ) → firstFrom test i n ≤ i + n
+unfolding firstFrom
+first-most test i zero = omega arith
+first-most test i (suc n) = pick-case (test i) i (firstFrom test (i + 1) n) (λ (r : ℕ). r ≤ i + suc n) (λ e. omega arith) (λ e. omega (arith, first-most test (i + 1) n))
+
+-- where one is found, the test holds there
+pub first-holds : (test : ℕ → Bool) (i n : ℕ) → firstFrom test i n < i + n → test (firstFrom test i n) ≡ true
+unfolding firstFrom
+first-holds test i zero h = absurd (omega arith)
+first-holds test i (suc n) h =
+    pick-case (test i) i (firstFrom test (i + 1) n) (λ (r : ℕ). r < i + suc n → test r ≡ true) (λ e below. e) (λ e below. first-holds test (i + 1) n (omega arith)) h
+
+-- and it holds at none before
+pub first-none : (test : ℕ → Bool) (i n k : ℕ) → i ≤ k → k < firstFrom test i n → test k ≡ false
+unfolding firstFrom
+first-none test i zero k low high = absurd (omega arith)
+first-none test i (suc n) k low high =
+    pick-case (test i) i (firstFrom test (i + 1) n) (λ (r : ℕ). k < r → test k ≡ false)
+    (λ e below. absurd (omega arith))
+    (λ e below. ⊎-elim (λ (same : i ≡ k). rw (← same) e) (λ (more : i < k). first-none test (i + 1) n k (omega arith) below) (eq-or-lt-of-le low))
+    high
+
+-- where the test fails everywhere, nothing is found
+pub first-all : (test : ℕ → Bool) (i n : ℕ) → ((k : ℕ) → i ≤ k → k < i + n → test k ≡ false) → firstFrom test i n ≡ i + n
+unfolding firstFrom
+first-all test i zero fails = sym (add-zero i)
+first-all test i (suc n) fails =
+    rw (fails i (omega arith) (omega arith), first-all test (i + 1) n (λ k low high. fails k (omega arith) (omega arith))) (omega arith)

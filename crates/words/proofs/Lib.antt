@@ -1,0 +1,5 @@
+-- The laws of the vocabulary, which the proofs of this crate and of those above cite.
+pub mod WordLaws
+pub mod BufferLaws
+pub mod DecideLaws
+pub mod Unique

@@ -1,0 +1,19 @@
+-- What each public function promises, by name: the statements that the contracts cite, over the inputs, the result and the
+-- lent part at entry and at exit. Assumes nothing.
+use mathlib.Core.Path.{_≡_}
+use mathlib.Core.List.{List}
+use Prim.Native.Nat.{ℕ}
+use Rattle.words.specs.Word.{word}
+use Rattle.words.specs.Buffer.{fitted}
+
+-- r is the word of k bytes at `at`
+abbrev pub ReadsWord : ℕ → List ℕ → ℕ → ℕ → Type 0
+ReadsWord k s at r = r ≡ word k s at
+
+-- the part that held `before` holds ws over its front, or what it held where ws has not the room
+abbrev pub Leaves : List ℕ → List ℕ → List ℕ → Type 0
+Leaves ws before after = after ≡ fitted ws before
+
+-- a statement that leaves nothing open: any two results that meet it are equal
+abbrev pub OneResult : {R : Type 0} → (R → Type 0) → Type 0
+OneResult {R} P = (r r′ : R) → P r → P r′ → r ≡ r′
