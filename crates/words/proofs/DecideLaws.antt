@@ -1,10 +1,11 @@
 -- Laws of decision lists and of the first number that passes a test. Assumes nothing.
 use mathlib.Core.Path.{_≡_, refl, sym, _∙_, ap, subst}
-use mathlib.Core.Bool.{Bool, true, false}
+use mathlib.Core.Bool.{Bool, true, false, true≢false}
 use mathlib.Core.List.{List, [], _∷_, _++_}
-use mathlib.Core.Logic.{⊎-elim}
+use mathlib.Core.Logic.{⊎-elim, _⊎_, inl, inr}
 use Prim.Native.Nat.{ℕ, zero, suc, _+_, _<_, _≤_, _-_}
-use native.Mathlib.Nat.{zero-add, add-zero, sub-self, eq-or-lt-of-le}
+use native.Mathlib.Nat.{zero-add, add-zero, sub-self, eq-or-lt-of-le, lt-of-not-le}
+use native.Mathlib.Decide.{decLe}
 use native.Mathlib.Omega.{arith}
 use Rattle.words.specs.Decide.{pick, Line, _⇒_, decide, firstFrom, first}
 
@@ -66,3 +67,28 @@ unfolding firstFrom
 first-all test i zero fails = sym (add-zero i)
 first-all test i (suc n) fails =
     rw (fails i (omega arith) (omega arith), first-all test (i + 1) n (λ k low high. fails k (omega arith) (omega arith))) (omega arith)
+
+-- two numbers, one way or the other
+pub le-or-gt : (a b : ℕ) → (a ≤ b) ⊎ (b < a)
+le-or-gt a b = go (decLe a b)
+  where
+    go : Dec (a ≤ b) → (a ≤ b) ⊎ (b < a)
+    go (yes h) = inl h
+    go (no h) = inr (lt-of-not-le h)
+
+-- the first is the one that holds and before which none does
+pub first-at : (test : ℕ → Bool) (n i : ℕ) → i < n → ((k : ℕ) → k < i → test k ≡ false) → test i ≡ true → first test n ≡ i
+first-at test n i below none holds = ⊎-elim at-most (λ (high : i < first test n). absurd (true≢false (sym holds ∙ first-none test 0 n i (omega arith) high))) (le-or-gt (first test n) i)
+  where
+    at-most : first test n ≤ i → first test n ≡ i
+    at-most low =
+        ⊎-elim (λ (same : first test n ≡ i). same)
+        (λ (less : first test n < i). absurd (true≢false (sym (first-holds test 0 n (omega arith)) ∙ none (first test n) less)))
+        (eq-or-lt-of-le low)
+
+-- two tests that agree find the same
+pub first-same : (f g : ℕ → Bool) (i n : ℕ) → ((k : ℕ) → i ≤ k → k < i + n → f k ≡ g k) → firstFrom f i n ≡ firstFrom g i n
+unfolding firstFrom
+first-same f g i zero same = refl
+first-same f g i (suc n) same =
+    rw (same i (omega arith) (omega arith), first-same f g (i + 1) n (λ k low high. same k (omega arith) (omega arith)))

@@ -1,0 +1,78 @@
+-- One result for each statement: two results, or two results with their exits, that meet a public function's statement are
+-- equal. An enum's map to document 01's answers is one-to-one, since it has a left inverse. Assumes nothing.
+use mathlib.Core.Path.{_≡_, refl, sym, _∙_, ap}
+use mathlib.Core.List.{List}
+use Prim.Native.Nat.{ℕ}
+use lib.ListN.{length, getD}
+use Rattle.words.specs.Buffer.{fitted}
+use Rattle.words.specs.Answer.{Answer, accepted, more, refused}
+use Rattle.words.specs.Statement.{Leaves, OneResult}
+use Rattle.words.proofs.Unique.{equal-to-one}
+use Rattle.guid.specs.declared.Guid.{Guid}
+use Rattle.guid.specs.declared.Printed.{Printed}
+use Rattle.guid.specs.declared.Printed.the-variants.{Written, NoRoom}
+use Rattle.guid.specs.declared.Parsed.{Parsed}
+use Rattle.guid.specs.declared.Parsed.the-variants.{Read, Bad}
+use Rattle.guid.specs.Guid.{guidOf, wordsOf, wireBytes, guidAt, halvesOf, guidOfHalves, isNull}
+use Rattle.guid.specs.Text.{textOf}
+use Rattle.guid.specs.Statement.{printedPaper, parsedPaper, MadeOfParts, GivesParts, MadeOfHalves, GivesHalves, TellsNull, ReadsBytes, SizesText, Prints, Parses}
+
+-- back from an answer to the enum's case
+printedBack : Answer → Printed
+printedBack (accepted count fields) = Written count
+printedBack more = Written 0
+printedBack (refused number values consumed) = NoRoom (getD values 1 0) (getD values 2 0)
+
+printed-back : (r : Printed) → printedBack (printedPaper r) ≡ r
+unfolding printedBack
+printed-back (Written count) = refl
+printed-back (NoRoom needed given) = refl
+
+pub printed-told : (r r′ : Printed) → printedPaper r ≡ printedPaper r′ → r ≡ r′
+printed-told r r′ e = sym (printed-back r) ∙ ap printedBack e ∙ printed-back r′
+
+parsedBack : Answer → Parsed
+parsedBack (accepted count fields) = Read (guidOf (getD fields 0 0) (getD fields 1 0) (getD fields 2 0) (getD fields 3 0))
+parsedBack more = Bad
+parsedBack (refused number values consumed) = Bad
+
+parsed-back : (r : Parsed) → parsedBack (parsedPaper r) ≡ r
+unfolding parsedBack
+parsed-back (Read g) = refl
+parsed-back Bad = refl
+
+pub parsed-told : (r r′ : Parsed) → parsedPaper r ≡ parsedPaper r′ → r ≡ r′
+parsed-told r r′ e = sym (parsed-back r) ∙ ap parsedBack e ∙ parsed-back r′
+
+pub Guid-from-parts-unique : (a b c d : ℕ) → OneResult (MadeOfParts a b c d)
+Guid-from-parts-unique a b c d = equal-to-one (guidOf a b c d)
+
+pub Guid-parts-unique : (g : Guid) → OneResult (GivesParts g)
+Guid-parts-unique g = equal-to-one (wordsOf g)
+
+pub Guid-from-halves-unique : (first second : ℕ) → OneResult (MadeOfHalves first second)
+Guid-from-halves-unique first second = equal-to-one (guidOfHalves first second)
+
+pub Guid-halves-unique : (g : Guid) → OneResult (GivesHalves g)
+Guid-halves-unique g = equal-to-one (halvesOf g)
+
+pub Guid-is-null-unique : (g : Guid) → OneResult (TellsNull g)
+Guid-is-null-unique g = equal-to-one (isNull g)
+
+pub Guid-from-bytes-unique : (s : List ℕ) (at : ℕ) → OneResult (ReadsBytes s at)
+Guid-from-bytes-unique s at = equal-to-one (guidAt s at)
+
+pub Guid-write-unique : (g : Guid) (before : List ℕ) → OneResult (Leaves (wireBytes g) before)
+Guid-write-unique g before = equal-to-one (fitted (wireBytes g) before)
+
+pub Guid-text-size-unique : (g : Guid) → OneResult (SizesText g)
+Guid-text-size-unique g = equal-to-one (length (textOf g))
+
+pub Guid-print-unique : (g : Guid) (before : List ℕ) → OneResult (λ (p : Printed × List ℕ). Prints g before (p .0) (p .1))
+Guid-print-unique g before p p′ q q′ =
+    let answer : p .0 ≡ p′ .0 = printed-told (p .0) (p′ .0) (q .0 ∙ sym (q′ .0)) in
+    let exit : p .1 ≡ p′ .1 = q .1 ∙ sym (q′ .1) in
+    ap (λ (r : Printed). (r, p .1)) answer ∙ ap (λ (l : List ℕ). (p′ .0, l)) exit
+
+pub Guid-parse-unique : (s : List ℕ) → OneResult (Parses s)
+Guid-parse-unique s r r′ q q′ = parsed-told r r′ (q ∙ sym q′)

@@ -1,0 +1,178 @@
+// YTsaurus GUIDs after guid.rs: sixteen wire bytes, four little-endian words, two halves, and one text, the words printed backwards.
+// A GUID is held as its four words, so that the enum of an answer can carry it; the wire bytes are read and written at the border.
+ghost use Rattle.words.specs.Statement.{Leaves};
+ghost use Rattle.guid.specs.Guid.{wireBytes};
+ghost use Rattle.guid.specs.Statement.{MadeOfParts, GivesParts, MadeOfHalves, GivesHalves, TellsNull, ReadsBytes, SizesText, Prints, Parses};
+use hex::Field;
+use words::read::read_u32;
+use words::write::write_u32;
+
+mod hex;
+
+// The words in wire order.
+pub struct Guid {
+    pub w0: u32,
+    pub w1: u32,
+    pub w2: u32,
+    pub w3: u32,
+}
+
+// The words alone, in the same order.
+pub type FourWords = [u32; 4];
+
+// Bytes 0 to 7 and bytes 8 to 15, as `TGuid` carries them.
+pub struct Halves(pub u64, pub u64);
+
+// What `print` answers: how many bytes it wrote, or document 01's 17 (4, needed, given).
+pub enum Printed {
+    Written(usize),
+    NoRoom { needed: usize, given: usize },
+}
+
+// What `parse` answers: the GUID, or document 01's 16.
+pub enum Parsed {
+    Read(Guid),
+    Bad,
+}
+
+impl Guid {
+    pub fn from_parts(w0: u32, w1: u32, w2: u32, w3: u32) -> Guid
+        ensures { λ r. ⌜ MadeOfParts w0 w1 w2 w3 r ⌝ }
+    {
+        Self { w0, w1, w2, w3 }
+    }
+
+    pub fn parts(self) -> FourWords
+        ensures { λ r. ⌜ GivesParts self r ⌝ }
+    {
+        [self.w0, self.w1, self.w2, self.w3]
+    }
+
+    pub fn from_halves(first: u64, second: u64) -> Guid
+        ensures { λ r. ⌜ MadeOfHalves first second r ⌝ }
+    {
+        Guid {
+            w0: (first % 0x1_0000_0000) as u32,
+            w1: (first / 0x1_0000_0000) as u32,
+            w2: (second % 0x1_0000_0000) as u32,
+            w3: (second / 0x1_0000_0000) as u32,
+        }
+    }
+
+    pub fn halves(self) -> Halves
+        ensures { λ r. ⌜ GivesHalves self r ⌝ }
+    {
+        Halves(
+            (self.w0 as u64) + 0x1_0000_0000 * (self.w1 as u64),
+            (self.w2 as u64) + 0x1_0000_0000 * (self.w3 as u64),
+        )
+    }
+
+    pub fn is_null(self) -> bool
+        ensures { λ r. ⌜ TellsNull self r ⌝ }
+    {
+        if self.w0 != 0 {
+            return false;
+        }
+        if self.w1 != 0 {
+            return false;
+        }
+        if self.w2 != 0 {
+            return false;
+        }
+        self.w3 == 0
+    }
+
+    // The GUID whose sixteen bytes begin at `at`. A byte past the end counts as 0.
+    pub fn from_bytes(bytes: &[u8], at: usize) -> Guid
+        ensures { λ r. ⌜ ReadsBytes (now (bytes .entry)) at r ⌝ }
+    {
+        if bytes.len() <= at {
+            return Guid {
+                w0: 0,
+                w1: 0,
+                w2: 0,
+                w3: 0,
+            };
+        }
+        Guid {
+            w0: read_u32(bytes, at),
+            w1: read_u32(bytes, at + 4),
+            w2: read_u32(bytes, at + 8),
+            w3: read_u32(bytes, at + 12),
+        }
+    }
+
+    // The sixteen bytes, over the front of `out` where they fit.
+    pub fn write(self, out: &mut [u8])
+        ensures { λ _. ⌜ Leaves (wireBytes self) (now (out .entry)) (now (out .exit)) ⌝ }
+    {
+        if out.len() < 16 {
+            return;
+        }
+        write_u32(out, self.w0);
+        write_u32(&mut out[4..], self.w1);
+        write_u32(&mut out[8..], self.w2);
+        write_u32(&mut out[12..], self.w3);
+    }
+
+    // How many bytes the text has.
+    pub fn text_size(self) -> usize
+        ensures { λ r. ⌜ SizesText self r ⌝ }
+    {
+        hex::digits(self.w3)
+            + hex::digits(self.w2)
+            + hex::digits(self.w1)
+            + hex::digits(self.w0)
+            + 3
+    }
+
+    // The text, over the front of `out`: Rust's `Display`.
+    pub fn print(self, out: &mut [u8]) -> Printed
+        ensures { λ r. ⌜ Prints self (now (out .entry)) r (now (out .exit)) ⌝ }
+    {
+        let needed = self.text_size();
+        if out.len() < needed {
+            return Printed::NoRoom {
+                needed,
+                given: out.len(),
+            };
+        }
+        let second = hex::put_dashed(out, self.w3);
+        let third = second + hex::put_dashed(&mut out[second..], self.w2);
+        let last = third + hex::put_dashed(&mut out[third..], self.w1);
+        hex::put(&mut out[last..], self.w0);
+        Printed::Written(needed)
+    }
+
+    // A text of four fields between dashes: Rust's `from_str`.
+    pub fn parse(text: &[u8]) -> Parsed
+        ensures { λ r. ⌜ Parses (now (text .entry)) r ⌝ }
+    {
+        let Field::Word(w3, end3) = hex::read_field(text, 0) else {
+            return Parsed::Bad;
+        };
+        if text.len() <= end3 {
+            return Parsed::Bad;
+        }
+        let Field::Word(w2, end2) = hex::read_field(text, end3 + 1) else {
+            return Parsed::Bad;
+        };
+        if text.len() <= end2 {
+            return Parsed::Bad;
+        }
+        let Field::Word(w1, end1) = hex::read_field(text, end2 + 1) else {
+            return Parsed::Bad;
+        };
+        if text.len() <= end1 {
+            return Parsed::Bad;
+        }
+        let Field::Word(w0, end0) = hex::read_field(text, end1 + 1) else {
+            return Parsed::Bad;
+        };
+        if end0 < text.len() {
+            return Parsed::Bad;
+        }
+        Parsed::Read(Guid { w0, w1, w2, w3 })
+    }
+}
