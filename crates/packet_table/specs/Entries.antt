@@ -1,0 +1,57 @@
+-- The lent part table, from document 01: "Part: two u64 words, offset and length; null is offset 0, length 2^64-1. Offsets count
+-- from the start of the read input, or of the byte area when writing." Assumes nothing.
+use Prim.Native.Nat.{ℕ, zero, suc, _+_, _*_}
+use mathlib.Core.Bool.{Bool, not, _&&_}
+use mathlib.Core.List.{List, []}
+use lib.ListN.{length, getD}
+use Rattle.words.specs.Decide.{pick, _=?_, _<?_}
+use Rattle.words.specs.Buffer.{stretch}
+use Rattle.packet.specs.Layout.{largestPart}
+use Rattle.packet.specs.Reading.{entryWords, nullLength, room}
+
+-- of an entry's two words
+abbrev pub isNull : ℕ → ℕ → Bool
+isNull offset size = offset =? 0 && size =? nullLength
+
+-- "a stretch outside the area (offset plus length, unwrapped, above its size)"
+abbrev pub isOutside : ℕ → ℕ → ℕ → Bool
+isOutside given offset size = not (isNull offset size) && given <? (offset + size)
+
+abbrev pub isTooLarge : ℕ → ℕ → Bool
+isTooLarge offset size = not (isNull offset size) && largestPart <? size
+
+-- the bytes that its part takes
+abbrev pub taken : ℕ → ℕ → ℕ
+taken offset size = pick (isNull offset size) 0 size
+
+module _ (table : List ℕ) (i : ℕ) where
+  -- the words of entry i
+  abbrev pub offsetAt : ℕ
+  offsetAt = getD table (entryWords * i) 0
+
+  abbrev pub sizeAt : ℕ
+  sizeAt = getD table (entryWords * i + 1) 0
+
+  abbrev pub nullAt : Bool
+  nullAt = isNull offsetAt sizeAt
+
+  abbrev pub tooLargeAt : Bool
+  tooLargeAt = isTooLarge offsetAt sizeAt
+
+-- the bytes that k parts take, from part i on
+unfoldable pub takenFrom : List ℕ → ℕ → ℕ → ℕ
+takenFrom table i zero = 0
+takenFrom table i (suc k) = taken (offsetAt table i) (sizeAt table i) + takenFrom table (i + 1) k
+
+-- over an area, or a read input
+module _ (area table : List ℕ) (i : ℕ) where
+  abbrev pub outsideAt : Bool
+  outsideAt = isOutside (length area) (offsetAt table i) (sizeAt table i)
+
+  abbrev pub stretchAt : List ℕ
+  stretchAt = stretch area (offsetAt table i) (sizeAt table i)
+
+  -- "Asked for part i, the library lends back exactly that stretch of the input; a null part, or an i or entry outside the table
+  -- or input, gives the empty stretch at the front."
+  unfoldable pub lentAt : List ℕ
+  lentAt = pick (i <? room table && not (nullAt table i) && not outsideAt) stretchAt []
