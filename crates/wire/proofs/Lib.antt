@@ -1,0 +1,9 @@
+-- Laws of reading.
+pub mod Examples
+pub mod WalkLaws
+pub mod FillLaws
+pub mod DecodeLaws
+pub mod AlikeLaws
+pub mod RowLaws
+pub mod Unique
+pub mod PlainLaws

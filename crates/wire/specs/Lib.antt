@@ -1,0 +1,6 @@
+-- The order in which a rowset is read, the plain form, what the private stages hand on, and the statements of the public functions.
+pub mod Reading
+pub mod Plain
+pub mod Alike
+pub mod Stage
+pub mod Statement

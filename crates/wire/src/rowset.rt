@@ -1,0 +1,43 @@
+// A rowset read into lent tables, after the Rust's `decode_rowset`. A row is one word, its count or the null mark; a value is five:
+// id, type, aggregate, scalar bits or blob offset, blob length.
+ghost use Rattle.wire.specs.Statement.{Decodes};
+use super::fill::fill_rows;
+use super::walk::Walked;
+use super::walk::walk_rowset;
+use wire_value::error::WireError;
+use words::read::read_u64;
+
+pub enum Decoded {
+    Read { rows: usize, values: usize },
+    Refused(WireError),
+}
+
+pub fn decode_rowset(input: &[u8], rows: &mut [u64], values: &mut [u64]) -> Decoded
+    ensures { λ r. ⌜ Decodes (now (input .entry)) (now (rows .entry)) (now (values .entry)) r (now (rows .exit)) (now (values .exit)) ⌝ }
+{
+    match walk_rowset(input) {
+        Walked::Stopped(refusal) => Decoded::Refused(refusal),
+        Walked::At(_, entries) => {
+            let count = read_u64(input, 0) as usize;
+            if rows.len() < count {
+                return Decoded::Refused(WireError::NoRoom {
+                    which: 2,
+                    needed: count,
+                    given: rows.len(),
+                });
+            }
+            if values.len() / 5 < entries {
+                return Decoded::Refused(WireError::NoRoom {
+                    which: 3,
+                    needed: entries,
+                    given: values.len() / 5,
+                });
+            }
+            fill_rows(input, count, rows, values);
+            Decoded::Read {
+                rows: count,
+                values: entries,
+            }
+        }
+    }
+}

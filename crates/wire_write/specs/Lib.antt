@@ -1,0 +1,2 @@
+-- The statements of the writers.
+pub mod Encode
