@@ -1,0 +1,239 @@
+-- Demand 3: damage is named. Each stretch rests on the burst law; the lines of the order before it see the same bytes as in the
+-- input that was accepted. Assumes nothing.
+use mathlib.Core.Path.{_≡_, refl, sym, _∙_, ap}
+use mathlib.Core.Bool.{Bool, true, false, not, _&&_, or-true}
+use mathlib.Core.List.{List, [], _∷_}
+use mathlib.Core.Logic.{⊎-elim, _⊎_, inl, inr}
+use Prim.Native.Nat.{ℕ, zero, suc, _+_, _*_, _<_, _≤_, min}
+use native.Mathlib.Nat.{zero-add, le-trans}
+use native.Mathlib.Omega.{arith}
+use borrow.Author.Tests.{ltb-false, le-ltb, lt-ltb, ne-eqb}
+use lib.ListN.{length, take, drop}
+use Rattle.words.specs.Word.{word, Bytes}
+use Rattle.words.specs.Answer.{Answer, accepted, more, refused, refuse}
+use Rattle.words.specs.Buffer.{stretch}
+use Rattle.words.specs.Decide.{pick, _=?_, _≠?_, _<?_, decide, first}
+use Rattle.words.proofs.DecideLaws.{first-none, first-at, first-same}
+use Rattle.crc64.specs.Polynomial.{checksum}
+use Rattle.crc64.specs.Damage.{Damaged}
+use Rattle.packet.specs.Layout.{packetSignature, nullSize, largestPart, mostParts, hasVariableHeader, headers, signature, type, count, fixedSum, fields, size, taken, takenBefore, partSum, variable, variableSum, start, whole, part}
+use Rattle.packet.specs.Paper.{paper, fieldsOf}
+use Rattle.promises.specs.TablesKeep.{NotTaken}
+use Rattle.promises.proofs.TablesKeep.{packet-tables-keep}
+use Rattle.packet.specs.Reading.{room, fails, isNull, tooLarge, partFails, firstTooLarge, firstFailing, order, reading}
+use Rattle.packet.proofs.SizeLaws.{taken-below}
+use Rattle.promises.specs.Damage.{Stretch, fixedHeader, variableHeader, partAt, Has, from, long, stored, Names, DamageIsNamed, DecodeNamesDamage}
+use Rattle.promises.proofs.Agreement.{same-word, same-stretch, other-checksum}
+use Rattle.promises.proofs.Acceptance.{guards, present, none-of, not-null}
+use Rattle.promises.proofs.Lines.{Before, Behind, lines-before, lines-behind, pass-before}
+
+-- a word that guarded one stretch fails another of another checksum
+broken : (word : ℕ) (a b : List ℕ) → (word ≡ 0 → ⊥) → fails word a ≡ false → (checksum a ≡ checksum b → ⊥) → fails word b ≡ true
+broken word a b kept passed other =
+    ⊎-elim (λ (zero : word ≡ 0). absurd (kept zero))
+    (λ (same : word ≡ checksum a). rw (ne-eqb word 0 kept, ne-eqb word (checksum b) (λ e. other (sym same ∙ e))))
+    (guards word a passed)
+
+module _ (s t : List ℕ) (limit ceiling room : ℕ) {at run : ℕ} (bytes-s : Bytes s) (bytes-t : Bytes t) (few : run ≤ 8) (damaged : Damaged at run s t) where
+  module _ (before : Before s (count s) ceiling) where
+    -- bytes 0 to 27
+    fixed-named : (fixedSum s ≡ 0 → ⊥) → at + run ≤ 28 → Names t fixedHeader (reading t limit ceiling room)
+    unfolding reading order
+    fixed-named kept high = by-signature (signature t ≠? packetSignature) refl
+      where
+        long-enough : (length t <? 36) ≡ false
+        long-enough = rw (← damaged .same-length) (before .there)
+
+        word-is : fixedSum s ≡ fixedSum t
+        word-is = same-word damaged 8 28 (inr high)
+
+        failed : fails (fixedSum t) (take 28 t) ≡ true
+        failed = rw (← word-is) (broken (fixedSum s) (take 28 s) (take 28 t) kept (before .guarded) (other-checksum damaged 0 28 (omega arith) (omega arith) few bytes-s bytes-t))
+
+        by-type : (b : Bool) → (signature t ≠? packetSignature) ≡ false → (2 <? type t) ≡ b → Names t fixedHeader (decide (order t (count t) limit ceiling room) (accepted (whole t (count t)) (fields t)))
+        by-type true e₁ e₂ = inr (inl (rw (long-enough, e₁, e₂)))
+        by-type false e₁ e₂ = inr (inr (rw (long-enough, e₁, e₂, failed)))
+
+        by-signature : (b : Bool) → (signature t ≠? packetSignature) ≡ b → Names t fixedHeader (decide (order t (count t) limit ceiling room) (accepted (whole t (count t)) (fields t)))
+        by-signature true e = inl (rw (long-enough, e))
+        by-signature false e = by-type (2 <? type t) e refl
+
+    -- where the run lies behind the fixed header, that header is read as before
+    module _ (behind-fixed : 36 ≤ at) where
+      same-count : count s ≡ count t
+      same-count = same-word damaged 4 24 (inl (omega arith))
+
+      same-type : type s ≡ type t
+      same-type = same-word damaged 2 4 (inl (omega arith))
+
+      before-too : Before t (count s) ceiling
+      before-too =
+          record {
+            there = rw (← damaged .same-length) (before .there);
+            signed = rw (← same-word damaged 4 0 (inl (omega arith))) (before .signed);
+            known = rw (← same-type) (before .known);
+            guarded = rw (← same-word damaged 8 28 (inl (omega arith)), ← same-stretch damaged 0 28 (inl (omega arith))) (before .guarded);
+            few = before .few;
+          }
+
+      module _ (with-header : hasVariableHeader (type s) (count s) ≡ true) (behind : Behind s (count s) limit room) where
+        abbrev n : ℕ
+        n = count s
+
+        abbrev end : Answer
+        end = accepted (whole t n) (fields t)
+
+        header-too : hasVariableHeader (type t) n ≡ true
+        header-too = rw (← same-type) with-header
+
+        -- the reader's answer to t, past the fixed header
+        answer-is : reading t limit ceiling room ≡ decide (drop 6 (order t n limit ceiling room)) end
+        unfolding reading
+        answer-is =
+            ap (λ (k : ℕ). decide (order t k limit ceiling room) (accepted (whole t k) (fields t))) (sym same-count)
+            ∙ pass-before t n limit ceiling room end before-too header-too
+
+        length-too : (m : ℕ) → (length s <? m) ≡ false → (length t <? m) ≡ false
+        length-too m e = rw (← damaged .same-length) e
+
+        -- bytes 36 to 36 + 12n
+        variable-named : (variableSum s n ≡ 0 → ⊥) → at + run ≤ 36 + 12 * n → Names t variableHeader (reading t limit ceiling room)
+        unfolding order
+        variable-named kept high = rw (← same-count) (answer-is ∙ rw (behind .short, length-too (headers n) (behind .headers-there), failed))
+          where
+            word-is : variableSum s n ≡ variableSum t n
+            word-is = same-word damaged 8 (36 + 12 * n) (inr high)
+
+            failed : fails (variableSum t n) (variable t n) ≡ true
+            failed = rw (← word-is) (broken (variableSum s n) (variable s n) (variable t n) kept (behind .guarded) (other-checksum damaged 36 (12 * n) behind-fixed high few bytes-s bytes-t))
+
+        -- where it lies behind the variable header, that is read as before too
+        module _ (behind-headers : headers n ≤ at) where
+          same-size : (i : ℕ) → i < n → size s i ≡ size t i
+          same-size i h = same-word damaged 4 (36 + 4 * i) (inl (omega arith))
+
+          same-taken : (i : ℕ) → i ≤ n → takenBefore s i ≡ takenBefore t i
+          unfolding takenBefore
+          same-taken zero h = refl
+          same-taken (suc i) h = rw (same-taken i (omega arith), same-size i (omega arith))
+
+          same-sum : (i : ℕ) → i < n → partSum s n i ≡ partSum t n i
+          same-sum i h = same-word damaged 8 (36 + 4 * n + 8 * i) (inl (omega arith))
+
+          same-large : firstTooLarge s n ≡ firstTooLarge t n
+          same-large = first-same (tooLarge s) (tooLarge t) 0 n (λ k low high. ap (λ (w : ℕ). not (w =? nullSize) && largestPart <? w) (same-size k (omega (arith, zero-add n))))
+
+          module _ (i : ℕ) (below : i < n) (some : size s i ≡ nullSize → ⊥) (kept : partSum s n i ≡ 0 → ⊥)
+              (low : start s n i ≤ at) (high : at + run ≤ start s n i + taken s i) where
+            -- part k is looked for where it stood
+            part-there : (k : ℕ) → k < n → part t n k ≡ stretch t (start s n k) (taken s k)
+            part-there k h =
+                ap (λ (w : ℕ). stretch t (headers n + w) (taken t k)) (sym (same-taken k (omega arith)))
+                ∙ ap (λ (w : ℕ). stretch t (start s n k) (pick (w =? nullSize) 0 w)) (sym (same-size k h))
+
+            -- an earlier part lies before the run
+            same-part : (k : ℕ) → k < i → part s n k ≡ part t n k
+            same-part k h =
+                same-stretch damaged (start s n k) (taken s k) (inl (omega (arith, taken-below s k i h))) ∙ sym (part-there k (omega arith))
+
+            none : (k : ℕ) → k < n → partFails s n k ≡ false
+            none k h = none-of s n (partFails s n) (behind .parts) k h
+
+            earlier : (k : ℕ) → k < i → partFails t n k ≡ false
+            earlier k h = sym (failing-same k (omega arith) (same-part k h)) ∙ none k (omega arith)
+              where
+                failing-same : (k : ℕ) → k < n → part s n k ≡ part t n k → partFails s n k ≡ partFails t n k
+                failing-same k h same =
+                    ap (λ (w : ℕ). not (w =? nullSize) && fails (partSum s n k) (part s n k)) (same-size k h)
+                    ∙ ap (λ (w : ℕ). not (isNull t k) && fails w (part s n k)) (same-sum k h)
+                    ∙ ap (λ (b : List ℕ). not (isNull t k) && fails (partSum t n k) b) same
+
+            failed : partFails t n i ≡ true
+            failed =
+                ap (λ (b : List ℕ). not (isNull t i) && fails (partSum t n i) b) (part-there i below)
+                ∙ ap (λ (w : ℕ). not (isNull t i) && fails w (stretch t (start s n i) (taken s i))) (sym (same-sum i below))
+                ∙ ap (λ (w : ℕ). not (w =? nullSize) && fails (partSum s n i) (stretch t (start s n i) (taken s i))) (sym (same-size i below))
+                ∙ ap (λ (b : Bool). not b && fails (partSum s n i) (stretch t (start s n i) (taken s i))) (ne-eqb (size s i) nullSize some)
+                ∙ broken (partSum s n i) (part s n i) (stretch t (start s n i) (taken s i)) kept
+                (present (isNull s i) (fails (partSum s n i) (part s n i)) (not-null s n i some) (none i below))
+                (other-checksum damaged (start s n i) (taken s i) low high few bytes-s bytes-t)
+
+            first-is : firstFailing t n ≡ i
+            first-is = first-at (partFails t n) n i below earlier failed
+
+            variable-too : fails (variableSum t n) (variable t n) ≡ false
+            variable-too = rw (← same-word damaged 8 (36 + 12 * n) (inl (omega arith)), ← same-stretch damaged 36 (12 * n) (inl (omega arith))) (behind .guarded)
+
+            whole-too : whole s n ≡ whole t n
+            whole-too = ap (λ (w : ℕ). headers n + w) (same-taken n (omega arith))
+
+            part-named : Names t (partAt i) (reading t limit ceiling room)
+            unfolding order
+            part-named =
+                rw (← same-count)
+                (answer-is
+                ∙ rw (
+                  behind .short,
+                  length-too (headers n) (behind .headers-there),
+                  variable-too,
+                  ← same-large,
+                  behind .sizes,
+                  ← whole-too,
+                  behind .within,
+                  length-too (whole s n) (behind .there),
+                  first-is,
+                  lt-ltb i n below,
+                ))
+
+-- a packet with parts has a variable header
+counted-header : (s : List ℕ) (i : ℕ) → i < count s → hasVariableHeader (type s) (count s) ≡ true
+counted-header s i h = rw (lt-ltb 0 (count s) (omega arith)) (or-true (type s =? 0))
+
+-- Demand 3: damage is named. An accepted packet, damaged only inside one run of at most eight bytes of one checksummed stretch
+-- whose stored word is not 0, is refused by that stretch's checksum: an altered term does not pass for another term.
+pub damage-is-named : DamageIsNamed
+unfolding reading
+damage-is-named s t limit ceiling room n f fixedHeader at run bytes-s bytes-t e has kept few low high damaged =
+    fixed-named s t limit ceiling room bytes-s bytes-t few damaged
+    (lines-before s (count s) limit ceiling room _ (accepted n f) refl e .0)
+    kept
+    (rw (zero-add 28) at high)
+damage-is-named s t limit ceiling room n f variableHeader at run bytes-s bytes-t e has kept few low high damaged =
+    variable-named s t limit ceiling room bytes-s bytes-t few damaged
+    (lines-before s (count s) limit ceiling room _ (accepted n f) refl e .0)
+    low
+    has
+    (lines-behind s (count s) limit ceiling room _ (accepted n f) refl e has .0)
+    kept
+    high
+damage-is-named s t limit ceiling room n f (partAt i) at run bytes-s bytes-t e has kept few low high damaged =
+    let there : hasVariableHeader (type s) (count s) ≡ true = counted-header s i (has .0) in
+    part-named s t limit ceiling room bytes-s bytes-t few damaged
+    (lines-before s (count s) limit ceiling room _ (accepted n f) refl e .0)
+    (omega arith)
+    there
+    (lines-behind s (count s) limit ceiling room _ (accepted n f) refl e there .0)
+    (omega arith)
+    i
+    (has .0)
+    (has .1)
+    kept
+    low
+    high
+
+-- an answer that names a stretch is no acceptance
+not-taken : (t : List ℕ) (stretch : Stretch) (a : Answer) → Names t stretch a → NotTaken a
+not-taken t fixedHeader a named =
+    ⊎-elim (λ (e : a ≡ refuse 1 (signature t ∷ [])). rw e tt)
+    (⊎-elim (λ (e : a ≡ refuse 2 (type t ∷ [])). rw e tt) (λ (e : a ≡ refuse 5 (fixedSum t ∷ checksum (take 28 t) ∷ [])). rw e tt))
+    named
+not-taken t variableHeader a named = rw named tt
+not-taken t (partAt i) a named = rw named tt
+
+-- Demand 3 of the function `decode_with`: damage is named, and the lent table is left as it was.
+pub decode-names-damage : DecodeNamesDamage
+decode-names-damage s t limit ceiling table packet consumed filled r after stretch at run bytes-s bytes-t taken told has kept few low high damaged =
+    let named : Names t stretch (paper r) =
+    rw (told .answer)
+    (damage-is-named s t limit ceiling (room table) consumed (fieldsOf packet) stretch at run bytes-s bytes-t (sym (taken .answer)) has kept few low high damaged) in
+    (named, packet-tables-keep t limit ceiling table r after told .0 (not-taken t stretch (paper r) named))

@@ -1,0 +1,11 @@
+-- The proofs of what is guaranteed.
+pub mod Agreement
+pub mod Lines
+pub mod Acceptance
+pub mod Damage
+pub mod Written
+pub mod RoundTrip
+pub mod Prefix
+pub mod Rowsets
+pub mod Examples
+pub mod TablesKeep

@@ -1,0 +1,45 @@
+-- Every row in its place: the rowsets' theorems, from the laws of the crates that define reading and writing. Assumes nothing.
+use mathlib.Core.Path.{_≡_, refl, sym, _∙_, ap}
+use mathlib.Core.Bool.{Bool, true, false, true≢false, false≢true}
+use mathlib.Core.List.{List}
+use Prim.Native.Nat.{ℕ, _≤_}
+use borrow.Author.Tests.{ltb-false, le-ltb}
+use lib.ListN.{length}
+use Rattle.words.specs.Decide.{pick, _<?_}
+use Rattle.wire_value.specs.Layout.{maxSize, countAt}
+use Rattle.wire.specs.Plain.{accepts, plainRows, plain}
+use Rattle.wire.proofs.RowLaws.{row-word, row-entries, refusal-leaves}
+use Rattle.wire.proofs.AlikeLaws.{read-alike}
+use Rattle.wire_round.proofs.RowsetRound.{round-trip}
+use Rattle.wire_round.proofs.PlainRound.{written-plain}
+use Rattle.promises.specs.Rowsets.{RowsetRoundTrip, RowsInOrder, IgnoredBytes, PlainExactly, WrittenIsPlain, RowsetTablesKeep}
+
+pub rowset-round-trip : RowsetRoundTrip
+rowset-round-trip = round-trip
+
+-- "I prepared fisheries and opened dentistry" cannot happen: row i stands at row i.
+pub rows-in-order : RowsInOrder
+rows-in-order s i h = (row-word s (countAt s 0) i 8 h, row-entries s (countAt s 0) i 8 h)
+
+pub ignored-bytes : IgnoredBytes
+ignored-bytes = read-alike
+
+both : (long ok values : Bool) → pick long false (pick ok values false) ≡ true → (long ≡ false) × (ok ≡ true) × (values ≡ true)
+both true ok values e = absurd (false≢true e)
+both false true values e = (refl, refl, e)
+both false false values e = absurd (false≢true e)
+
+pub plain-exactly : PlainExactly
+unfolding plain
+plain-exactly s = (
+  (λ yes-it-is.
+      let told = both (maxSize <? length s) (accepts s) (plainRows s (countAt s 0) 8) yes-it-is in
+      (ltb-false maxSize (length s) (told .0), told .1, told .2)),
+  (λ short ok values. rw (le-ltb maxSize (length s) short, ok) values),
+)
+
+pub written-is-plain : WrittenIsPlain
+written-is-plain = written-plain
+
+pub rowset-tables-keep : RowsetTablesKeep
+rowset-tables-keep = refusal-leaves

@@ -1,0 +1,7 @@
+-- What is guaranteed, by name.
+pub mod Acceptance
+pub mod Damage
+pub mod RoundTrip
+pub mod Rowsets
+pub mod Examples
+pub mod TablesKeep
