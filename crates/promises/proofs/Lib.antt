@@ -6,6 +6,8 @@ pub mod Damage
 pub mod Written
 pub mod RoundTrip
 pub mod Prefix
+pub mod Encoded
 pub mod Rowsets
 pub mod Examples
 pub mod TablesKeep
+pub mod OneResult

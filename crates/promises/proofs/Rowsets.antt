@@ -1,18 +1,20 @@
 -- Every row in its place: the rowsets' theorems, from the laws of the crates that define reading and writing. Assumes nothing.
 use mathlib.Core.Path.{_≡_, refl, sym, _∙_, ap}
 use mathlib.Core.Bool.{Bool, true, false, true≢false, false≢true}
-use mathlib.Core.List.{List}
+use mathlib.Core.List.{List, []}
 use Prim.Native.Nat.{ℕ, _≤_}
 use borrow.Author.Tests.{ltb-false, le-ltb}
-use lib.ListN.{length}
+use lib.ListN.{length, take}
+use lib.Seq.{take-at}
 use Rattle.words.specs.Decide.{pick, _<?_}
-use Rattle.wire_value.specs.Layout.{maxSize, countAt}
+use Rattle.wire_value.specs.Layout.{maxSize, countAt, rowsetBytes}
+use Rattle.wire_accept.specs.Accepts.{accepted-good}
 use Rattle.wire.specs.Plain.{accepts, plainRows, plain}
 use Rattle.wire.proofs.RowLaws.{row-word, row-entries, refusal-leaves}
 use Rattle.wire.proofs.AlikeLaws.{read-alike}
 use Rattle.wire_round.proofs.RowsetRound.{round-trip}
 use Rattle.wire_round.proofs.PlainRound.{written-plain}
-use Rattle.promises.specs.Rowsets.{RowsetRoundTrip, RowsInOrder, IgnoredBytes, PlainExactly, WrittenIsPlain, RowsetTablesKeep}
+use Rattle.promises.specs.Rowsets.{RowsetRoundTrip, RowsInOrder, IgnoredBytes, PlainExactly, WrittenIsPlain, RowsetTablesKeep, RowsetEncodeThenDecode}
 
 pub rowset-round-trip : RowsetRoundTrip
 rowset-round-trip = round-trip
@@ -43,3 +45,9 @@ written-is-plain = written-plain
 
 pub rowset-tables-keep : RowsetTablesKeep
 rowset-tables-keep = refusal-leaves
+
+pub rowset-encode-then-decode : RowsetEncodeThenDecode
+rowset-encode-then-decode area rows values out n after words told =
+    let found = accepted-good area rows values (length out) n [] words (sym (told .0)) in
+    let written : take n after ≡ rowsetBytes area rows values = ap (take n) (told .1) ∙ take-at (rowsetBytes area rows values) _ n (found .1) in
+    (rw written (round-trip area rows values (found .0)), rw written (written-plain area rows values (found .0) (rw (found .1) (found .2))))

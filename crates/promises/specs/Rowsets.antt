@@ -1,10 +1,10 @@
 -- Demand 2 for rowsets: every row in its place. A lookup answers one row per event in the order asked, and a null row for an
 -- event without terms; fold one away, and each later glossary slides to its neighbour's title. Assumes nothing.
-use Prim.Native.Nat.{ℕ, _+_, _*_, _≤_, _<_}
+use Prim.Native.Nat.{ℕ, _+_, _*_, _^_, _≤_, _<_}
 use mathlib.Core.Bool.{Bool, true}
 use mathlib.Core.List.{List}
 use mathlib.Core.Path.{_≡_}
-use lib.ListN.{length, getD}
+use lib.ListN.{length, getD, take}
 use Rattle.words.specs.Buffer.{stretch}
 use Rattle.wire_value.specs.Layout.{nullMark, maxSize, valuesIn, countAt, nextRows, valueCount, entries, rowWords, valueWords, rowsetBytes}
 use Rattle.wire_value.specs.declared.error.WireError.{WireError}
@@ -13,6 +13,8 @@ use Rattle.wire.specs.Plain.{accepts, plainRows, plain}
 use Rattle.wire.specs.Alike.{Alike}
 use Rattle.wire.specs.Statement.{Decodes}
 use Rattle.wire.specs.declared.rowset.Decoded.the-variants.{Refused}
+use Rattle.wire_write.specs.declared.write.Encoded.the-variants.{Written}
+use Rattle.wire_write.specs.Encode.{Encodes}
 use Rattle.wire_round.specs.Tables.{GoodTables}
 use Rattle.wire_round.proofs.RowsetRound.{ReadBack}
 
@@ -56,3 +58,11 @@ WrittenIsPlain =
 abbrev pub RowsetTablesKeep : Type 0
 RowsetTablesKeep =
     (s rows values rows′ values′ : List ℕ) (refusal : WireError) → Decodes s rows values (Refused refusal) rows′ values′ → (rows′ ≡ rows) × (values′ ≡ values)
+
+-- The same from what the writer says: where `encode_rowset` has answered, by its statement `Encodes`, that it wrote n bytes, those
+-- bytes are read back as the rows and values that were given, and have the plain form. (A table's words are of 64 bits.)
+abbrev pub RowsetEncodeThenDecode : Type 0
+RowsetEncodeThenDecode =
+    (area rows values out : List ℕ) (n : ℕ) (after : List ℕ) → ((i : ℕ) → getD values i 0 < 2 ^ 64)
+    → Encodes area rows values out (Written n) after
+    → ReadBack area rows values (take n after) × (plain (take n after) ≡ true)

@@ -1,6 +1,6 @@
 -- What the checks of the tables decide: the values of the rows, the words of an entry, the order. Assumes nothing.
 use mathlib.Core.Path.{_≡_, refl, sym, _∙_, ap}
-use mathlib.Core.Bool.{Bool, true, false, not, _||_}
+use mathlib.Core.Bool.{Bool, true, false, not, _&&_, _||_}
 use mathlib.Core.List.{List}
 use Prim.Native.Nat.{ℕ, _+_, _*_, _-_, _/_, _%_, _<_, _≤_}
 use native.Mathlib.Nat.{sub-zero}
@@ -12,7 +12,7 @@ use lib.Seq.{drop-cons}
 use borrow.Author.Tests.{ltb-true, ltb-false, eqb-true, eqb-false, lt-ltb, le-ltb, eq-eqb, ne-eqb}
 use Rattle.words.specs.Decide.{firstFrom}
 use Rattle.words.proofs.DecideLaws.{first-miss, first-hit, first-end, first-none}
-use Rattle.wire_value.specs.Layout.{nullMark, maxRows, entryWords, known, valuesIn}
+use Rattle.wire_value.specs.Layout.{nullMark, maxRows, entryWords, blob, known, valuesIn}
 use Rattle.wire_value.proofs.TypeLaws.{known-null, known-scalar, known-blob, unknown-low, unknown-middle, unknown-high, blob-yes, blob-low}
 use Rattle.wire_value.specs.declared.error.WireError.the-variants.{TooManyRows, BadTable}
 use Rattle.wire_table.specs.Writing.{entriesIn, total, bad, badEntry, firstBad, tableOrder}
@@ -138,6 +138,35 @@ module _ (size id type aggregate bits n : ℕ) where
         unfolding bad
         scalar-length e f =
             rw (le-ltb 65535 id fits, known-is, le-ltb 1 aggregate one, ne-eqb type 6 e, ne-eqb type 2 f, blob-low type (omega arith)) (or-nothing _)
+
+-- Where none is wrong, each of the tests fails
+
+or-left : (a b : Bool) → (a || b) ≡ false → a ≡ false
+or-left true b h = h
+or-left false b h = refl
+
+or-right : (a b : Bool) → (a || b) ≡ false → b ≡ false
+or-right true true h = h
+or-right true false h = refl
+or-right false b h = h
+
+seven : (a b c d e f g : Bool) → (a || b || c || d || e || f || g) ≡ false
+    → (a ≡ false) × (b ≡ false) × (c ≡ false) × (d ≡ false) × (e ≡ false) × (f ≡ false) × (g ≡ false)
+seven a b c d e f g h =
+    let h6 : (a || b || c || d || e || f) ≡ false = or-left _ g h in
+    let h5 : (a || b || c || d || e) ≡ false = or-left _ f h6 in
+    let h4 : (a || b || c || d) ≡ false = or-left _ e h5 in
+    let h3 : (a || b || c) ≡ false = or-left _ d h4 in
+    let h2 : (a || b) ≡ false = or-left _ c h3 in
+    (or-left a b h2, or-right a b h2, or-right (a || b) c h3, or-right (a || b || c) d h4, or-right (a || b || c || d) e h5, or-right (a || b || c || d || e) f h6, or-right (a || b || c || d || e || f) g h)
+
+pub none-wrong : (size id type aggregate bits n : ℕ) → bad size id type aggregate bits n ≡ false
+    → (ltb 65535 id ≡ false) × (not (known type) ≡ false) × (ltb 1 aggregate ≡ false) × ((eqb type 6 && ltb 1 bits) ≡ false)
+    × ((eqb type 2 && not (eqb bits 0)) ≡ false) × ((not (blob type) && not (eqb n 0)) ≡ false) × ((blob type && ltb size (bits + n)) ≡ false)
+unfolding bad
+none-wrong size id type aggregate bits n good =
+    seven (ltb 65535 id) (not (known type)) (ltb 1 aggregate) (eqb type 6 && ltb 1 bits) (eqb type 2 && not (eqb bits 0))
+    (not (blob type) && not (eqb n 0)) (blob type && ltb size (bits + n)) good
 
 -- The first bad entry: the search from i on finds what the whole finds
 

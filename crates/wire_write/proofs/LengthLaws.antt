@@ -1,10 +1,10 @@
 -- How long what is written is: the sizes that were measured. Assumes nothing.
 use mathlib.Core.Path.{_≡_, refl, sym, _∙_, ap}
-use mathlib.Core.Bool.{Bool, true, false, not, _&&_, _||_}
+use mathlib.Core.Bool.{true, false}
 use mathlib.Core.List.{List, [], _∷_, _++_}
 use Prim.Native.Nat.{ℕ, zero, suc, _+_, _*_, _%_, _<_, _≤_}
 use native.Mathlib.Omega.{arith}
-use lib.Dec.{ltb, eqb}
+use lib.Dec.{ltb}
 use lib.ListN.{length, drop, replicate, length-append, length-drop, length-replicate}
 use lib.Seq.{length-take-le}
 use borrow.Author.Tests.{ltb-true, ltb-false, not-false, lt-ltb, le-ltb, ne-eqb}
@@ -16,39 +16,19 @@ use Rattle.wire_value.proofs.TypeLaws.{scalar-yes, scalar-low, blob-low, payloa
 use Rattle.wire_table.specs.Writing.{total, bad, sizeOf, valuesSize, rowsSize, rowsetSize}
 use Rattle.wire_table.specs.Measure.{Good, Sound}
 use Rattle.wire_write.specs.Encode.{blobBytes}
-use Rattle.wire_table.proofs.TableLaws.{by-test}
+use Rattle.wire_table.proofs.TableLaws.{by-test, none-wrong}
 
 -- What the checks leave of a value: its type is known, and a blob lies within the area
 
-or-left : (a b : Bool) → (a || b) ≡ false → a ≡ false
-or-left true b h = h
-or-left false b h = refl
-
-or-right : (a b : Bool) → (a || b) ≡ false → b ≡ false
-or-right true true h = h
-or-right true false h = refl
-or-right false b h = h
-
--- of seven tests that all fail, the second and the last
-second-last : (a b c d e f g : Bool) → (a || b || c || d || e || f || g) ≡ false → (b ≡ false) × (g ≡ false)
-second-last a b c d e f g h =
-    (or-right a b (or-left (a || b) c (or-left (a || b || c) d (or-left (a || b || c || d) e (or-left (a || b || c || d || e) f (or-left (a || b || c || d || e || f) g h))))), or-right (a || b || c || d || e || f) g h)
-
 module _ (size id type aggregate bits n : ℕ) (good : bad size id type aggregate bits n ≡ false) where
-  fails : (not (known type) ≡ false) × ((blob type && ltb size (bits + n)) ≡ false)
-  unfolding bad
-  fails =
-      second-last (ltb 65535 id) (not (known type)) (ltb 1 aggregate) (eqb type 6 && ltb 1 bits) (eqb type 2 && not (eqb bits 0))
-      (not (blob type) && not (eqb n 0)) (blob type && ltb size (bits + n)) good
-
   pub good-known : known type ≡ true
-  good-known = not-false (known type) (fails .0)
+  good-known = not-false (known type) (none-wrong size id type aggregate bits n good .1)
 
   pub good-blob : 7 ≤ type → blob type ≡ true
   good-blob h = rw (ne-eqb type 2 (λ e. omega arith), lt-ltb 2 type (omega arith), le-ltb type 7 h) at good-known
 
   pub good-stretch : 7 ≤ type → bits + n ≤ size
-  good-stretch h = ltb-false size (bits + n) (rw (good-blob h) at (fails .1))
+  good-stretch h = ltb-false size (bits + n) (rw (good-blob h) at (none-wrong size id type aggregate bits n good .6))
 
 -- A payload
 

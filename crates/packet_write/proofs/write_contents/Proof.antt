@@ -1,6 +1,6 @@
 -- `write_contents` meets its contract. The invariant: the parts from `index` on are still to be written. Assumes nothing.
-use mathlib.Core.Path.{sym, _∙_, ap}
-use mathlib.Core.List.{List}
+use mathlib.Core.Path.{_≡_, sym, _∙_, ap}
+use mathlib.Core.List.{List, _++_}
 use Prim.Native.Nat.{ℕ, _+_, _≤_, _<_, _-_}
 use native.Mathlib.Nat.{sub-zero}
 use native.Mathlib.Omega.{arith}
@@ -42,19 +42,29 @@ part-write-bytes-end c = search needs
 write-bytes-requires : tie.Need-write-bytes-requires Inv-loop μ-loop
 write-bytes-requires c κs = search needs
 
-add-at : tie.Need-add-at Inv-loop μ-loop
+-- the part of this turn, what comes after it, and that both are still to be written
+abbrev here : tie.After-part Inv-loop μ-loop → List ℕ
+here c = content (partAt (c .before .before .before .before .before .before .args .area .now) (c .before .before .before .before .before .before .args .parts .now) (c .before .before .loop .index))
+
+abbrev later : tie.After-part Inv-loop μ-loop → List ℕ
+later c =
+    let next : ℕ = c .before .before .loop .index + 1 in
+    contents (partsFrom (c .before .before .before .before .before .before .args .area .now) (c .before .before .before .before .before .before .args .parts .now) next (room (c .before .before .before .before .before .before .args .parts .now) - next))
+
+is-part : (c : tie.After-part Inv-loop μ-loop) → c .part .result .now ≡ here c
+is-part c = c .part .ensures ∙ lent-content (c .before .before .before .before .before .before .args .area .now) (c .before .before .before .before .before .before .args .parts .now) (c .before .before .before .before .before .before .pre .0) (c .before .before .loop .index) (search needs)
+
+at-part : (c : tie.After-part Inv-loop μ-loop)
+    → Filling (contents (partsOf (c .before .before .before .before .before .before .args .area .now) (c .before .before .before .before .before .before .args .parts .now))) (here c ++ later c) (c .before .before .before .before .before .before .args .out .now) (c .before .before .loop .out) (c .before .before .loop .at)
 unfolding contents
+at-part c = rw (parts-next (c .before .before .before .before .before .before .args .area .now) (c .before .before .before .before .before .before .args .parts .now) (c .before .before .loop .index) (room (c .before .before .before .before .before .before .args .parts .now)) (search needs)) at (c .before .before .loop .inv .1)
+
+add-at : tie.Need-add-at Inv-loop μ-loop
 add-at c =
-    let start = c .before .before .before .before .before .before .before .before .before .before in
-    let at = c .before .before .before .before .before .before .loop in
-    let area : List ℕ = start .args .area .now in
-    let table : List ℕ = start .args .parts .now in
-    let below : at .index < room table = search needs in
-    let here : List ℕ = content (partAt area table (at .index)) in
-    let rest : List ℕ = contents (partsFrom area table (at .index + 1) (room table - (at .index + 1))) in
-    let lent = c .before .before .before .before .part .ensures ∙ lent-content area table (start .pre .0) (at .index) below in
-    let filling = rw (parts-next area table (at .index) (room table) below) at (at .inv .1) in
-    omega (arith, room-left filling, length-append here rest, ap (λ (bs : List ℕ). length bs) lent)
+    let rest : List ℕ = later (c .before .before .before .before) in
+    let filling = at-part (c .before .before .before .before) in
+    let lent = is-part (c .before .before .before .before) in
+    omega (arith, room-left filling, length-append (here (c .before .before .before .before)) rest, ap (λ (bs : List ℕ). length bs) lent)
 
 add-index : tie.Need-add-index Inv-loop μ-loop
 add-index c = search needs
@@ -63,19 +73,13 @@ loop-less : tie.Need-loop-less Inv-loop μ-loop
 loop-less c = search needs
 
 loop-again : tie.Need-loop-again Inv-loop μ-loop
-unfolding contents
 loop-again c =
-    let start = c .before .before .before .before .before .before .before .before .before .before in
+    let rest : List ℕ = later (c .before .before .before .before) in
+    let filling = at-part (c .before .before .before .before) in
+    let lent = is-part (c .before .before .before .before) in
     let at = c .before .before .before .before .before .before .loop in
-    let area : List ℕ = start .args .area .now in
-    let table : List ℕ = start .args .parts .now in
-    let below : at .index < room table = search needs in
-    let here : List ℕ = content (partAt area table (at .index)) in
-    let rest : List ℕ = contents (partsFrom area table (at .index + 1) (room table - (at .index + 1))) in
-    let lent = c .before .before .before .before .part .ensures ∙ lent-content area table (start .pre .0) (at .index) below in
-    let filling = rw (parts-next area table (at .index) (room table) below) at (at .inv .1) in
     let reach = ap (λ (bs : List ℕ). at .at + length bs) (sym lent) in
-    (search needs, step here rest (at .at + length (c .before .before .before .before .part .result .now)) filling reach (leaves here rest filling (rw lent at (c .before .before .write-bytes .ensures))))
+    (search needs, step (here (c .before .before .before .before)) rest (at .at + length (c .before .before .before .before .part .result .now)) filling reach (leaves (here (c .before .before .before .before)) rest filling (rw lent at (c .before .before .write-bytes .ensures))))
 
 same-length : tie.Need-same-length Inv-loop μ-loop
 same-length c = length-now (c .before .loop .inv .1)

@@ -1,8 +1,8 @@
-use Rattle.wire_write.proofs.FillingLaws.{begins, length-now, room-left}
 -- `write::write_values` meets its contract. The invariant: what is still to come goes behind what stands in front.
 -- Assumes nothing.
 use native.Mathlib.Omega.{arith}
 use borrow.Author.Needs.{needs}
+use Rattle.wire_write.proofs.FillingLaws.{begins, length-now, room-left}
 use Rattle.wire_write.proofs.BytesLaws.{ValuesToGo, entry-within, entry-room, values-step, values-done}
 use Rattle.wire_write.proofs.write.write_values.Statement.{statement}
 use Rattle.wire_write.proofs.write.write_values.Tie as tie

@@ -1,0 +1,88 @@
+-- What `encode` says it wrote is read back. Assumes nothing.
+use mathlib.Core.Path.{_≡_, refl, sym, _∙_, ap}
+use mathlib.Core.Bool.{Bool, true, false}
+use mathlib.Core.List.{List, [], _∷_, _++_}
+use Prim.Native.Nat.{ℕ, zero, suc, _+_, _^_, _<_, _≤_}
+use native.Mathlib.Nat.{add-zero, zero-add}
+use native.Mathlib.Omega.{arith}
+use lib.ListN.{length, getD, take, drop}
+use lib.Seq.{take-at}
+use Rattle.words.specs.Answer.{Answer, accepted, more, refused}
+use Rattle.words.specs.Decide.{pick, _<?_, decide}
+use Rattle.words.proofs.DecideLaws.{decide-append}
+use Rattle.guid.specs.declared.Guid.{Guid}
+use Rattle.guid.specs.Guid.{Fitting}
+use Rattle.packet.specs.declared.PacketType.{PacketType}
+use Rattle.packet.specs.declared.PacketType.the-variants.{Message as Plain, Ack, SslAck}
+use Rattle.packet.specs.declared.PacketFlags.{PacketFlags}
+use Rattle.packet.specs.Layout.{largestPart, mostParts}
+use Rattle.packet.specs.Reading.{reading, room}
+use Rattle.packet.specs.Paper.{typeNumber}
+use Rattle.packet_table.specs.Wire.{Part, null, content, packetSize, partAt, partsFrom, partsOf}
+use Rattle.packet_table.specs.Entries.{offsetAt, sizeAt, tooLargeAt, outsideAt}
+use Rattle.packet_table.specs.Checks.{Passes, checks}
+use Rattle.packet_table.proofs.CheckLaws.{passes}
+use Rattle.packet_table.proofs.WireLaws.{taken-most, small-at, inside-at, length-content, length-parts}
+use Rattle.packet_write.specs.declared.Encoded.the-variants.{Written}
+use Rattle.packet_write.specs.Writing.{writing, roomCheck}
+use Rattle.packet_write.specs.Statement.{Encodes, bytesFor}
+use Rattle.packet_write.proofs.PieceLaws.{length-packet}
+use Rattle.promises.specs.RoundTrip.{Message, wire, wireSize, Valid, Held, given, EncodeThenDecode}
+use Rattle.promises.proofs.RoundTrip.{round-trip}
+
+known-type : (t : PacketType) → typeNumber t ≤ 2
+known-type Plain = omega arith
+known-type Ack = omega arith
+known-type SslAck = omega arith
+
+module _ (area table : List ℕ) where
+  part-given : (k i j : ℕ) → j < k → getD (partsFrom area table i k) j null ≡ partAt area table (i + j)
+  unfolding partsFrom
+  part-given zero i j h = absurd (omega arith)
+  part-given (suc k) i zero h = rw (add-zero i)
+  part-given (suc k) i (suc j) h =
+      let place : i + suc j ≡ i + 1 + j = omega arith in
+      rw place (part-given k (i + 1) j (omega arith))
+
+  small-part : Passes area table → (i : ℕ) → i < room table → length (content (partAt area table i)) ≤ largestPart
+  small-part good i h =
+      rw (length-content table area i (inside-at table area i h (good .inside))) (taken-most (offsetAt table i) (sizeAt table i) (small-at table i h (good .small)))
+
+  -- what an acceptance says of the table, and how many bytes it counts
+  module _ (type given-room n : ℕ) (e : accepted n [] ≡ writing type area table given-room) where
+    checked : Passes area table × (decide (roomCheck (packetSize type (partsOf area table)) given-room) (accepted (packetSize type (partsOf area table)) []) ≡ accepted n [])
+    unfolding writing
+    checked =
+        let needed = packetSize type (partsOf area table) in
+        passes area table (sym (decide-append (checks area table) (roomCheck needed given-room) (accepted needed [])) ∙ sym e) refl
+
+    size-is : packetSize type (partsOf area table) ≡ n
+    size-is = by-room (given-room <? packetSize type (partsOf area table)) (checked .1)
+      where
+        by-room : (b : Bool) → pick b (refused 17 (4 ∷ packetSize type (partsOf area table) ∷ given-room ∷ []) 0) (accepted (packetSize type (partsOf area table)) []) ≡ accepted n []
+            → packetSize type (partsOf area table) ≡ n
+        by-room true e = absurd (let z : _≡_ {A = ℕ} 0 1 = cc in omega arith)
+        by-room false e = cc
+
+-- Where `encode` has answered that it wrote so many bytes, those bytes are read back, with any tail, as the packet that was given.
+pub encode-then-decode : EncodeThenDecode
+encode-then-decode type flags id area table out n after tail limit ceiling rooms flags-fit id-fits told held =
+    let m = given type flags id area table in
+    let good : Passes area table = checked area table (typeNumber type) (length out) n (told .answer) .0 in
+    let counted : length (partsOf area table) ≡ room table = length-parts table area 0 (room table) in
+    let size : wireSize m ≡ n = size-is area table (typeNumber type) (length out) n (told .answer) in
+    let ok : Valid m =
+    record {
+      known = known-type type;
+      flags-fit = flags-fit;
+      w0-fits = id-fits .fits0;
+      w1-fits = id-fits .fits1;
+      w2-fits = id-fits .fits2;
+      w3-fits = id-fits .fits3;
+      few = rw counted (good .few);
+      small = λ i h. let below : i < room table = rw counted at h in rw (part-given area table (room table) 0 i below, zero-add i) (small-part area table good i below);
+    } in
+    let written : take n after ≡ wire m =
+    ap (take n) (told .output) ∙ take-at (wire m) _ n (length-packet (typeNumber type) (flags .0) (id .w0) (id .w1) (id .w2) (id .w3) (partsOf area table) ∙ size) in
+    let back = round-trip m limit ceiling rooms tail ok held in
+    rw (written, ← size) back

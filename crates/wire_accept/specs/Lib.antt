@@ -1,0 +1,2 @@
+-- What the writer accepts is good.
+pub mod Accepts
