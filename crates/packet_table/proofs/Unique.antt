@@ -3,14 +3,12 @@
 use mathlib.Core.Path.{_≡_, refl, sym, ap, _∙_}
 use mathlib.Core.List.{List}
 use Prim.Native.Nat.{ℕ}
-use lib.ListN.{getD}
-use Rattle.words.specs.Decide.{pick, _=?_}
 use Rattle.words.specs.Answer.{Answer, accepted, more, refused}
 use Rattle.words.specs.Statement.{OneResult}
 use Rattle.words.proofs.Unique.{equal-to-one}
-use Rattle.packet.specs.Paper.{refusal}
+use Rattle.packet.proofs.Unique.{error-back}
+use Rattle.packet.specs.Paper.{errorOf, refusal}
 use Rattle.packet.specs.declared.PacketError.{PacketError}
-use Rattle.packet.specs.declared.PacketError.the-variants.{Signature, UnknownType, TooManyParts, PartTooLarge, FixedHeaderChecksum, VariableHeaderChecksum, PartChecksum, MessageTooLarge, NoRoom, BadTable}
 use Rattle.packet.specs.declared.PacketType.{PacketType}
 use Rattle.packet.specs.declared.PacketFlags.{PacketFlags}
 use Rattle.packet_table.specs.declared.Validated.{Validated}
@@ -20,23 +18,6 @@ use Rattle.packet_table.specs.declared.Measured.the-variants.{Size, Refu
 use Rattle.packet_table.specs.Paper.{paperValidated, paperMeasured}
 use Rattle.packet_table.specs.Statement.{Contains, Validates, Measures, LendsPart, PartChecksumIs, TellsVariableHeader, TellsNull}
 
--- the refusal that a number and its values are
-abbrev pub errorOf : ℕ → List ℕ → PacketError
-errorOf number values =
-    let a : ℕ = getD values 0 0 in
-    let b : ℕ = getD values 1 0 in
-    let d : ℕ = getD values 2 0 in
-    pick (number =? 1) (Signature a)
-    (pick (number =? 2) (UnknownType a)
-    (pick (number =? 3) (TooManyParts a)
-    (pick (number =? 4) (PartTooLarge a b)
-    (pick (number =? 5) (FixedHeaderChecksum a b)
-    (pick (number =? 6) (VariableHeaderChecksum a b)
-    (pick (number =? 7) (PartChecksum a b d)
-    (pick (number =? 8) (MessageTooLarge a b)
-    (pick (number =? 17) (NoRoom a b d)
-    (BadTable a b)))))))))
-
 -- of an answer, by what an acceptance and a refusal are
 abbrev pub told : {R : Type 0} → (ℕ → R) → (PacketError → R) → Answer → R
 told yes-of no-of (accepted n fields) = yes-of n
@@ -45,16 +26,7 @@ told yes-of no-of (refused number values consumed) = no-of (errorOf number value
 
 pub told-back : {R : Type 0} (yes-of : ℕ → R) (no-of : PacketError → R) (error : PacketError) (consumed : ℕ)
     → told yes-of no-of (refusal error consumed) ≡ no-of error
-told-back yes-of no-of (Signature found) consumed = refl
-told-back yes-of no-of (UnknownType found) consumed = refl
-told-back yes-of no-of (TooManyParts count) consumed = refl
-told-back yes-of no-of (PartTooLarge index size) consumed = refl
-told-back yes-of no-of (FixedHeaderChecksum stored computed) consumed = refl
-told-back yes-of no-of (VariableHeaderChecksum stored computed) consumed = refl
-told-back yes-of no-of (PartChecksum index stored computed) consumed = refl
-told-back yes-of no-of (MessageTooLarge size limit) consumed = refl
-told-back yes-of no-of (NoRoom which needed given) consumed = refl
-told-back yes-of no-of (BadTable rule position) consumed = refl
+told-back yes-of no-of error consumed = ap no-of (error-back error)
 
 -- a map that another undoes is one to one
 pub one-to-one : {R A : Type 0} (paper : R → A) (back : A → R) → ((r : R) → back (paper r) ≡ r) → (a : A) → OneResult (λ (r : R). paper r ≡ a)

@@ -18,7 +18,7 @@ use Rattle.packet_table.specs.Wire.{sealed, fixedFields, body, packetBytes, pac
 use Rattle.packet_table.specs.Checks.{checks, sizing}
 use Rattle.packet_table.proofs.WireLaws.{length-parts}
 use Rattle.packet_table.proofs.CheckLaws.{isAccepted, decided, checks-pass, refusal-refuses, sized}
-use Rattle.packet_write.specs.Filling.{Filling}
+use Rattle.words.specs.Filling.{Filling}
 use Rattle.packet_write.specs.Writing.{roomCheck, writing, outAfter}
 use Rattle.packet_write.proofs.FillingLaws.{opens}
 use Rattle.packet_write.proofs.PieceLaws.{length-sealed, length-fixed, length-packet}

@@ -1,4 +1,4 @@
--- What the private writers speak of: the size words by the table's entries, and an output that is filled piece by piece.
+-- What the private writers speak of: the size words by the table's entries.
 -- Assumes nothing.
 use Prim.Native.Nat.{ℕ, zero, suc, _+_, _≤_}
 use mathlib.Core.List.{List, [], _++_}
@@ -18,11 +18,3 @@ entrySize offset size = pick (isNull offset size) nullSize size
 unfoldable pub entrySizes : List ℕ → ℕ → ℕ → List ℕ
 entrySizes table i zero = []
 entrySizes table i (suc k) = bytesOf 4 (entrySize (offsetAt table i) (sizeAt table i)) ++ entrySizes table (i + 1) k
-
--- an output that held `before` and is to hold `whole` over its front holds all but `rest` of it, which goes to `at`
-pub record Filling (whole rest before now : List ℕ) (at : ℕ) : Type 0 where
-  pub done : List ℕ
-  pub joins : done ++ rest ≡ whole
-  pub reached : length done ≡ at
-  pub fits : length whole ≤ length before
-  pub holds : now ≡ over done before

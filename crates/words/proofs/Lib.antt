@@ -3,3 +3,4 @@ pub mod WordLaws
 pub mod BufferLaws
 pub mod DecideLaws
 pub mod Unique
+pub mod FillingLaws

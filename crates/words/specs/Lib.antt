@@ -4,3 +4,4 @@ pub mod Buffer
 pub mod Decide
 pub mod Answer
 pub mod Statement
+pub mod Filling

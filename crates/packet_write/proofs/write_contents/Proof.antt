@@ -8,7 +8,7 @@ use borrow.Author.Needs.{needs}
 use lib.ListN.{length, length-append}
 use Rattle.packet.specs.Reading.{room}
 use Rattle.packet_table.specs.Wire.{contents, content, partAt, partsFrom, partsOf}
-use Rattle.packet_write.specs.Filling.{Filling}
+use Rattle.words.specs.Filling.{Filling}
 use Rattle.packet_write.proofs.FillingLaws.{begins, place, room-left, length-now, step, leaves, ends}
 use Rattle.packet_write.proofs.PieceLaws.{parts-next, parts-end, lent-content}
 use Rattle.packet_write.proofs.write_contents.Statement.{statement}

@@ -8,7 +8,8 @@ use borrow.Author.Needs.{needs}
 use Rattle.packet.specs.Reading.{room}
 use Rattle.packet_table.specs.Entries.{offsetAt, sizeAt}
 use Rattle.packet_table.proofs.WireLaws.{small-at}
-use Rattle.packet_write.specs.Filling.{entrySize, entrySizes, Filling}
+use Rattle.packet_write.specs.Filling.{entrySize, entrySizes}
+use Rattle.words.specs.Filling.{Filling}
 use Rattle.packet_write.proofs.FillingLaws.{begins, place, length-now, word-step, ends}
 use Rattle.packet_write.proofs.PieceLaws.{entries-next, entries-end, length-entries}
 use Rattle.packet_write.proofs.write_sizes.Statement.{statement}

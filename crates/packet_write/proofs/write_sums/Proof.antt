@@ -14,7 +14,7 @@ use Rattle.packet.specs.Reading.{room}
 use Rattle.packet_table.specs.Entries.{lentAt}
 use Rattle.packet_table.specs.Wire.{sums, sumWord, partAt, partsFrom, partsOf}
 use Rattle.packet_table.proofs.WireLaws.{length-parts}
-use Rattle.packet_write.specs.Filling.{Filling}
+use Rattle.words.specs.Filling.{Filling}
 use Rattle.packet_write.proofs.FillingLaws.{begins, place, length-now, word-step, ends}
 use Rattle.packet_write.proofs.PieceLaws.{bytes-lent, length-sums, parts-next, parts-end, lent-content, sum-content}
 use Rattle.packet_write.proofs.write_sums.Statement.{statement}
