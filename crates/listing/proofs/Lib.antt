@@ -1,0 +1,4 @@
+-- The laws that the proofs of this crate cite, and that its statement leaves nothing open.
+pub mod TextLaws
+pub mod WalkLaws
+pub mod Unique

@@ -1,0 +1,52 @@
+// Pieces of text written to a buffer at a place, each answering where it ends. All of it is private to the crate.
+use guid::Guid;
+ghost use mathlib.Core.Path.{_≡_};
+ghost use mathlib.Core.List.{[], _∷_, _++_};
+ghost use Prim.Native.Nat.{_+_, _^_, _≤_, _<_};
+ghost use lib.ListN.{length};
+ghost use Rattle.guid.specs.Text.{textOf};
+ghost use Rattle.listing.specs.Text.{spelled, decimal};
+ghost use Rattle.listing.specs.Statement.{Wrote};
+
+pub(crate) fn put_bytes(out: &mut [u8], at: usize, bytes: &[u8]) -> usize
+    requires { ⌜ at + length (now bytes) ≤ length (now out) ⌝ }
+    ensures { λ r. ⌜ Wrote (now (bytes .entry)) at (now (out .entry)) r (now (out .exit)) ⌝ }
+{
+    words::write::write_bytes(&mut out[at..], bytes);
+    at + bytes.len()
+}
+
+// The decimal digits of a number that has at most `most` of them.
+fn put_digits(out: &mut [u8], at: usize, most: usize, number: u64) -> usize
+    requires { ⌜ (at + most ≤ length (now out)) × (0 < most) × (number < 10 ^ most) ⌝ }
+    ensures { λ r. ⌜ Wrote (spelled most number) at (now (out .entry)) r (now (out .exit)) × (r ≤ at + most) ⌝ }
+{
+    if number < 10 {
+        out[at] = (48 + number) as u8;
+        return at + 1;
+    }
+    let last = put_digits(out, at, most - 1, number / 10);
+    out[last] = (48 + number % 10) as u8;
+    last + 1
+}
+
+// A number, and the byte behind it.
+pub(crate) fn put_field(out: &mut [u8], at: usize, number: u64, after: u8) -> usize
+    requires { ⌜ at + 21 ≤ length (now out) ⌝ }
+    ensures { λ r. ⌜ Wrote (decimal number ++ after ∷ []) at (now (out .entry)) r (now (out .exit)) × (r ≤ at + 21) ⌝ }
+{
+    let last = put_digits(out, at, 20, number);
+    out[last] = after;
+    last + 1
+}
+
+// A packet's id, and a space behind it.
+pub(crate) fn put_id(out: &mut [u8], at: usize, id: Guid) -> usize
+    requires { ⌜ at + 36 ≤ length (now out) ⌝ }
+    ensures { λ r. ⌜ Wrote (textOf id ++ 32 ∷ []) at (now (out .entry)) r (now (out .exit)) × (r ≤ at + 36) ⌝ }
+{
+    let last = at + id.text_size();
+    id.print(&mut out[at..]);
+    out[last] = b' ';
+    last + 1
+}
