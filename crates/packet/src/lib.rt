@@ -36,6 +36,9 @@ pub const DEFAULT_MAX_PART_COUNT: u32 = 0x1_0000;
 // A checksum word that holds this was not computed, and is not verified.
 pub const NULL_CHECKSUM: u64 = 0;
 
+// The words of an entry of the lent part table: offset and length.
+pub const ENTRY_WORDS: usize = 2;
+
 pub enum PacketType {
     Message,
     Ack,
@@ -349,8 +352,8 @@ fn fill(input: &[u8], count: usize, parts: &mut [u64])
     let mut index = 0;
     while index < count {
         let size = read_u32(input, 36 + 4 * index);
-        parts[2 * index] = offset_word(size, at);
-        parts[2 * index + 1] = length_word(size);
+        parts[ENTRY_WORDS * index] = offset_word(size, at);
+        parts[ENTRY_WORDS * index + 1] = length_word(size);
         at += taken(size);
         index += 1;
     }
@@ -407,7 +410,7 @@ fn body(
                 consumed,
             },
             Parts::Good => {
-                let room = parts.len() / 2;
+                let room = parts.len() / ENTRY_WORDS;
                 if room < count {
                     return Decoded::Refused {
                         error: PacketError::NoRoom {

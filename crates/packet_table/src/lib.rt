@@ -1,5 +1,6 @@
 // The lent part table of a packet: what its entries name in an area or an input, the checks that a writer makes before it writes,
 // and how many bytes it will write.
+use packet::ENTRY_WORDS;
 use packet::FIXED_HEADER_SIZE;
 use packet::MAX_PART_COUNT;
 use packet::MAX_PART_SIZE;
@@ -16,9 +17,6 @@ ghost use Rattle.packet_table.specs.Entries.{isOutside, isTooLarge, take
 ghost use Rattle.packet_table.specs.Wire.{sizeOf};
 ghost use Rattle.packet_table.specs.Checks.{capped, firstTooLarge};
 ghost use Rattle.packet_table.specs.Statement.{Contains, Validates, Measures, LendsPart, PartChecksumIs, TellsVariableHeader, TellsNull};
-
-// The words of an entry: offset and length.
-pub const ENTRY_WORDS: usize = 2;
 
 // The length word of a null part, whose offset is 0.
 const NULL_LENGTH: u64 = 0xffff_ffff_ffff_ffff;

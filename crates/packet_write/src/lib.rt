@@ -2,13 +2,13 @@
 // packet. Each writer is lent the part of the output that begins at its own place.
 use crc64::Entries;
 use guid::Guid;
+use packet::ENTRY_WORDS;
 use packet::FIXED_HEADER_SIZE;
 use packet::NULL_PART_SIZE;
 use packet::PacketError;
 use packet::PacketFlags;
 use packet::PacketType;
 use packet::SIGNATURE;
-use packet_table::ENTRY_WORDS;
 use packet_table::Measured;
 use words::write::write_bytes;
 use words::write::write_u16;
