@@ -1,0 +1,328 @@
+//! Times the Rust at the pinned commit and the port, in one process: the thread's CPU time, the median
+//! of nine rounds, each round a batch of calls. What a call consumes is made before the clock starts,
+//! and what it returns is dropped after it stops. Buffers that the port writes to are not cleared
+//! between calls, the Rust's output buffer is emptied and used again, and caches are warm.
+
+#[path = "../../compare/driver/src/face.rs"]
+#[allow(dead_code)]
+mod face;
+
+use bytes::{Bytes, BytesMut};
+use oracle::bus::packet::{self, Packet, PacketFlags, PacketType};
+use oracle::guid::Guid;
+use oracle::wire::{self, MaybeRow, UnversionedValue, Value};
+use std::ffi::{c_char, c_void};
+use std::hint::black_box;
+use std::io::Write;
+
+const ROUNDS: usize = 9;
+const LIMIT: u64 = 1 << 40;
+
+#[repr(C)]
+struct Time {
+    seconds: i64,
+    nanoseconds: i64,
+}
+
+unsafe extern "C" {
+    fn clock_gettime(clock: i32, time: *mut Time) -> i32;
+    fn dlopen(name: *const c_char, mode: i32) -> *mut c_void;
+    fn dlsym(library: *mut c_void, name: *const c_char) -> *mut c_void;
+}
+
+type Isal = unsafe extern "C" fn(u64, *const u8, u64) -> u64;
+
+/// ISA-L's CRC-64 of another polynomial, where its library is at hand: for scale.
+fn isal() -> Option<Isal> {
+    let name = std::env::var("CABLEFINCH_ISAL").unwrap_or("libisal.so.2".to_string());
+    let name = std::ffi::CString::new(name).ok()?;
+    // SAFETY: both names end in a zero byte; the function has this signature in ISA-L's crc64.h.
+    unsafe {
+        let library = dlopen(name.as_ptr(), 2);
+        if library.is_null() {
+            return None;
+        }
+        let function = dlsym(library, c"crc64_ecma_norm".as_ptr());
+        if function.is_null() {
+            return None;
+        }
+        Some(std::mem::transmute::<*mut c_void, Isal>(function))
+    }
+}
+
+/// The thread's CPU time in nanoseconds.
+fn clock() -> u64 {
+    const THREAD: i32 = 3;
+    let mut time = Time { seconds: 0, nanoseconds: 0 };
+    // SAFETY: the struct is the C library's timespec on 64-bit Linux.
+    let status = unsafe { clock_gettime(THREAD, &mut time) };
+    assert!(status == 0);
+    time.seconds as u64 * 1_000_000_000 + time.nanoseconds as u64
+}
+
+/// Nanoseconds a call: the median of nine batches.
+fn time<I, O>(batch: usize, mut make: impl FnMut() -> I, mut call: impl FnMut(I) -> O) -> f64 {
+    let mut times: Vec<f64> = (0..ROUNDS + 1)
+        .map(|_| {
+            let inputs: Vec<I> = (0..batch).map(|_| make()).collect();
+            let mut outputs = Vec::with_capacity(batch);
+            let start = clock();
+            for input in inputs {
+                outputs.push(black_box(call(black_box(input))));
+            }
+            (clock() - start) as f64 / batch as f64
+        })
+        .skip(1)
+        .collect();
+    times.sort_by(f64::total_cmp);
+    times[ROUNDS / 2]
+}
+
+struct Table {
+    wanted: Vec<String>,
+    missed: usize,
+}
+
+impl Table {
+    fn line(&mut self, name: &str, size: usize, bar: Option<f64>, measure: impl FnOnce() -> (f64, f64)) {
+        if !self.wanted.is_empty() && !self.wanted.iter().any(|word| name.contains(word.as_str())) {
+            return;
+        }
+        let (rust, port) = measure();
+        let ratio = rust / port;
+        let verdict = match bar {
+            None => "recorded".to_string(),
+            Some(bar) if ratio >= bar => format!("{bar:.2} met"),
+            Some(bar) => {
+                self.missed += 1;
+                format!("{bar:.2} MISSED")
+            }
+        };
+        println!("| {name} | {size} | {} | {} | {ratio:.2} | {verdict} |", scaled(rust), scaled(port));
+    }
+}
+
+fn scaled(nanoseconds: f64) -> String {
+    if nanoseconds < 10_000.0 {
+        format!("{nanoseconds:.1} ns")
+    } else if nanoseconds < 10_000_000.0 {
+        format!("{:.1} us", nanoseconds / 1e3)
+    } else {
+        format!("{:.2} ms", nanoseconds / 1e6)
+    }
+}
+
+/// Bytes that are no pattern.
+fn noise(length: usize) -> Vec<u8> {
+    let mut state = 0x9e37_79b9_7f4a_7c15u64;
+    (0..length)
+        .map(|_| {
+            state ^= state << 13;
+            state ^= state >> 7;
+            state ^= state << 17;
+            state as u8
+        })
+        .collect()
+}
+
+fn id() -> Guid {
+    Guid::from_parts([0x1234_5678, 0x9a_bcde, 0xf012_3456, 0x789a_bcde])
+}
+
+fn checksums(table: &mut Table) {
+    for (name, size, batch, bar) in [
+        ("checksum 28 B", 28, 20_000, None),
+        ("checksum 1 KiB", 1024, 1_000, Some(0.97)),
+        ("checksum 64 KiB", 65_536, 20, Some(0.97)),
+        ("checksum 64 MiB", 1 << 26, 1, Some(0.97)),
+    ] {
+        table.line(name, size, bar, || {
+            let bytes = noise(size);
+            assert!(oracle::crc64::checksum(&bytes) == face::checksum(&bytes));
+            (
+                time(batch, || (), |()| oracle::crc64::checksum(&bytes)),
+                time(batch, || (), |()| face::checksum(&bytes)),
+            )
+        });
+    }
+}
+
+/// A packet, its bytes, the table of its parts over an area that holds them one after another.
+struct Sample {
+    packet: Packet,
+    wire: Vec<u8>,
+    area: Vec<u8>,
+    parts: Vec<u64>,
+}
+
+fn sample(kind: PacketType, count: usize, size: usize, summed: bool) -> Sample {
+    let area = noise(count * size);
+    let whole = Bytes::from(area.clone());
+    let packet = Packet {
+        packet_type: kind,
+        flags: PacketFlags(0),
+        id: id(),
+        parts: (0..count).map(|i| Some(whole.slice(i * size..(i + 1) * size))).collect(),
+    };
+    let mut out = BytesMut::new();
+    packet::encode(&packet, &mut out).unwrap();
+    let mut wire = out.to_vec();
+    if !summed {
+        wire[28..36].fill(0);
+        if count > 0 {
+            wire[36 + 4 * count..44 + 12 * count].fill(0);
+        }
+    }
+    let parts = (0..count).flat_map(|i| [(i * size) as u64, size as u64]).collect();
+    Sample { packet, wire, area, parts }
+}
+
+fn packets(table: &mut Table) {
+    let ack = || sample(PacketType::Ack, 0, 0, true);
+    let small = || sample(PacketType::Message, 3, 100, true);
+    let large = || sample(PacketType::Message, 1_000, 1_024, true);
+    let bare = || sample(PacketType::Message, 1_000, 1_024, false);
+    decoded(table, "Ack decoded", 2_000, None, ack);
+    encoded(table, "Ack encoded", 2_000, None, ack);
+    decoded(table, "3 parts of 100 B decoded", 1_000, Some(0.97), small);
+    encoded(table, "3 parts of 100 B encoded", 1_000, Some(0.97), small);
+    decoded(table, "1,000 parts of 1 KiB decoded", 4, Some(0.97), large);
+    encoded(table, "1,000 parts of 1 KiB encoded", 4, Some(0.97), large);
+    decoded(table, "1,000 parts of 1 KiB without checksums decoded", 40, Some(1.0), bare);
+}
+
+fn decoded(table: &mut Table, name: &str, batch: usize, bar: Option<f64>, make: impl Fn() -> Sample) {
+    let sample = make();
+    table.line(name, sample.wire.len(), bar, || {
+        let mut parts = vec![0u64; 2 * sample.packet.parts.len()];
+        let outcome = face::decode(&sample.wire, LIMIT, &mut parts);
+        assert!(outcome.kind == face::ACCEPTED && outcome.count as usize == sample.wire.len());
+        (
+            time(
+                batch,
+                || BytesMut::from(&sample.wire[..]),
+                |mut input| (packet::decode(&mut input, LIMIT).unwrap(), input),
+            ),
+            time(batch, || (), |()| face::decode(&sample.wire, LIMIT, &mut parts)),
+        )
+    });
+}
+
+fn encoded(table: &mut Table, name: &str, batch: usize, bar: Option<f64>, make: impl Fn() -> Sample) {
+    let sample = make();
+    table.line(name, sample.wire.len(), bar, || {
+        let kind = sample.packet.packet_type as u64;
+        let mut out = vec![0u8; sample.wire.len()];
+        let mut buffer = BytesMut::with_capacity(sample.wire.len());
+        let id = sample.packet.id.0;
+        let outcome = face::encode(kind, 0, &id, &sample.area, &sample.parts, &mut out);
+        assert!(outcome.kind == face::ACCEPTED && out == sample.wire);
+        (
+            time(batch, || (), |()| {
+                buffer.clear();
+                packet::encode(black_box(&sample.packet), &mut buffer).unwrap();
+            }),
+            time(batch, || (), |()| face::encode(kind, 0, &id, &sample.area, &sample.parts, &mut out)),
+        )
+    });
+}
+
+fn rows(count: usize, null: impl Fn(usize) -> bool) -> Vec<MaybeRow> {
+    let text = Bytes::from(noise(13));
+    (0..count)
+        .map(|i| {
+            if null(i) {
+                return None;
+            }
+            let values = [
+                Value::Int64(-(i as i64)),
+                Value::Uint64(i as u64),
+                Value::Double(i as f64 / 3.0),
+                Value::Boolean(i % 2 == 0),
+                Value::String(text.clone()),
+            ];
+            Some(values.into_iter().enumerate().map(|(id, value)| UnversionedValue::new(id as u16, value)).collect())
+        })
+        .collect()
+}
+
+fn rowsets(table: &mut Table) {
+    rowset(table, "rowset of 100,000 rows of 5 values", 1, &rows(100_000, |_| false));
+    rowset(table, "rowset of 1,000 rows, every third null", 100, &rows(1_000, |i| i % 3 == 2));
+}
+
+fn rowset(table: &mut Table, name: &str, batch: usize, sample: &[MaybeRow]) {
+    let wire = wire::encode_rowset(sample).unwrap();
+    let count: usize = sample.iter().flatten().map(Vec::len).sum();
+    let mut row_table = vec![0u64; sample.len()];
+    let mut value_table = vec![0u64; 5 * count];
+    let outcome = face::decode_rowset(&wire, &mut row_table, &mut value_table);
+    assert!(outcome.kind == face::ACCEPTED && outcome.values[1] as usize == count);
+    table.line(&format!("{name} decoded"), wire.len(), Some(2.0), || {
+        (
+            time(batch, || (), |()| wire::decode_rowset(&wire).unwrap()),
+            time(batch, || (), |()| face::decode_rowset(&wire, &mut row_table, &mut value_table)),
+        )
+    });
+    let mut out = vec![0u8; wire.len()];
+    let outcome = face::encode_rowset(&wire, &row_table, &value_table, &mut out);
+    assert!(outcome.kind == face::ACCEPTED && out == wire);
+    let mut buffer = BytesMut::with_capacity(wire.len());
+    table.line(&format!("{name} encoded"), wire.len(), Some(1.5), || {
+        (
+            time(batch, || (), |()| {
+                buffer.clear();
+                wire::encode_rowset_into(black_box(sample), &mut buffer).unwrap();
+            }),
+            time(batch, || (), |()| face::encode_rowset(&wire, &row_table, &value_table, &mut out)),
+        )
+    });
+}
+
+fn guids(table: &mut Table) {
+    let id = id();
+    let text = id.to_string();
+    let mut out = [0u8; 64];
+    assert!(face::guid_print(&id.0, &mut out).count as usize == text.len() && out.starts_with(text.as_bytes()));
+    table.line("GUID printed", 16, Some(1.0), || {
+        let mut buffer = [0u8; 64];
+        (
+            time(20_000, || (), |()| write!(&mut buffer[..], "{}", black_box(&id)).unwrap()),
+            time(20_000, || (), |()| face::guid_print(&id.0, &mut out)),
+        )
+    });
+    let parsed = face::guid_parse(text.as_bytes());
+    assert!(text.parse::<Guid>().unwrap().parts().iter().zip(parsed.values).all(|(&a, b)| u64::from(a) == b));
+    table.line("GUID read", text.len(), Some(1.0), || {
+        (
+            time(20_000, || (), |()| black_box(&text[..]).parse::<Guid>().is_ok()),
+            time(20_000, || (), |()| face::guid_parse(text.as_bytes())),
+        )
+    });
+}
+
+fn main() {
+    let mut table = Table { wanted: std::env::args().skip(1).collect(), missed: 0 };
+    println!("| name | bytes | Rust | port | Rust / port | bar |");
+    println!("|---|---|---|---|---|---|");
+    checksums(&mut table);
+    packets(&mut table);
+    rowsets(&mut table);
+    guids(&mut table);
+    let (from, mut to) = (noise(1 << 26), vec![0u8; 1 << 26]);
+    let copy = time(1, || (), |()| to.copy_from_slice(black_box(&from)));
+    println!("\nfor scale: memcpy of 64 MiB {}, {:.1} GB/s", scaled(copy), (1u64 << 26) as f64 / copy);
+    match isal() {
+        // SAFETY: the pointer is the vector's, with its length.
+        Some(sum) => {
+            let summed = time(1, || (), |()| unsafe { sum(0, from.as_ptr(), from.len() as u64) });
+            println!("for scale: ISA-L's CRC-64 of 64 MiB {}, {:.1} GB/s", scaled(summed), (1u64 << 26) as f64 / summed);
+        }
+        None => println!("for scale: ISA-L is not at hand"),
+    }
+    println!("thread CPU time, median of {ROUNDS}, caches warm, buffers not cleared between calls");
+    if table.missed > 0 {
+        println!("{} bars missed", table.missed);
+        std::process::exit(1);
+    }
+}

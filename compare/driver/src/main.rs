@@ -1,0 +1,382 @@
+//! Answers the comparison's cases with the port: cases on standard input, one a line, and one answer
+//! line for each, by compare/PROTOCOL.md. The port is called and its outcome written down; lent memory
+//! is filled with 0xa5 before each call, and a byte changed that should not be is told as `touched`.
+
+mod face;
+
+use face::Outcome;
+use std::fmt::Write as _;
+use std::io::{self, BufRead, BufReader, BufWriter, Write};
+
+const NULL: u64 = u64::MAX;
+const FILL: u8 = 0xa5;
+const FILL_WORD: u64 = u64::from_ne_bytes([FILL; 8]);
+
+struct BadCase;
+
+type Answer = Result<String, BadCase>;
+
+fn main() -> io::Result<()> {
+    let mut input = BufReader::with_capacity(1 << 18, io::stdin().lock());
+    let mut output = BufWriter::with_capacity(1 << 18, io::stdout().lock());
+    let mut line = Vec::new();
+    loop {
+        if input.buffer().is_empty() {
+            output.flush()?;
+        }
+        line.clear();
+        if input.read_until(b'\n', &mut line)? == 0 {
+            return output.flush();
+        }
+        if line.last() == Some(&b'\n') {
+            line.pop();
+        }
+        match answer(&line) {
+            Ok(text) => output.write_all(text.as_bytes())?,
+            Err(BadCase) => output.write_all(b"bad case")?,
+        }
+        output.write_all(b"\n")?;
+    }
+}
+
+fn answer(line: &[u8]) -> Answer {
+    let words: Vec<&[u8]> = line.split(|&byte| byte == b' ').collect();
+    match (words[0], &words[1..]) {
+        (b"crc", stretches) if !stretches.is_empty() => crc(stretches),
+        (b"checksum", [bytes]) => Ok(format!("ok {:016x}", face::checksum(&read_bytes(bytes)?))),
+        (b"guid-print", [id]) => guid_print(&read_id(id)?),
+        (b"guid-read", [text]) => guid_read(&read_bytes(text)?),
+        (b"guid-parts", [id]) => guid_parts(&read_id(id)?),
+        (b"packet", [limit, ceiling, room, bytes]) => {
+            let ceiling = narrow(number(ceiling)?, u64::from(u32::MAX))? as u32;
+            packet(number(limit)?, Some(ceiling), number(room)?, &read_bytes(bytes)?)
+        }
+        (b"packet-default", [limit, room, bytes]) => {
+            packet(number(limit)?, None, number(room)?, &read_bytes(bytes)?)
+        }
+        (b"packet-write", [kind, flags, id, room, area, parts]) => {
+            let (kind, flags, id) = header(kind, flags, id)?;
+            packet_write(kind, flags, &id, number(room)?, &read_bytes(area)?, &read_words(parts)?)
+        }
+        (b"packet-size", [kind, flags, id, area, parts]) => {
+            let (kind, _, _) = header(kind, flags, id)?;
+            let outcome = face::encoded_size(kind, &read_bytes(area)?, &read_words(parts)?);
+            Ok(or_refusal(&outcome, || format!("ok {}", outcome.count)))
+        }
+        (b"validate", [kind, flags, id, area, parts]) => {
+            header(kind, flags, id)?;
+            let outcome = face::validate(&read_bytes(area)?, &read_words(parts)?);
+            Ok(or_refusal(&outcome, || "ok".to_string()))
+        }
+        (b"part", [index, bytes, parts]) => {
+            part(number(index)?, &read_bytes(bytes)?, &read_words(parts)?)
+        }
+        (b"contains", [flags, other]) => {
+            let flags = narrow(number(flags)?, 0xffff)? as u16;
+            let other = narrow(number(other)?, 0xffff)? as u16;
+            Ok(format!("ok {}", u8::from(face::contains(flags, other))))
+        }
+        (b"rowset", [rows, values, bytes]) => {
+            rowset(number(rows)?, number(values)?, &read_bytes(bytes)?)
+        }
+        (b"rowset-write", [room, area, rows, values]) => rowset_write(
+            number(room)?,
+            &read_bytes(area)?,
+            &read_words(rows)?,
+            &read_words(values)?,
+        ),
+        (b"rowset-size", [area, rows, values]) => {
+            let outcome =
+                face::rowset_size(&read_bytes(area)?, &read_words(rows)?, &read_words(values)?);
+            Ok(or_refusal(&outcome, || format!("ok {}", outcome.values[0])))
+        }
+        (b"value", [at, bytes]) => value(number(at)?, &read_bytes(bytes)?),
+        (b"plain", [bytes]) => {
+            Ok(format!("ok {}", u8::from(face::is_plain(&read_bytes(bytes)?))))
+        }
+        _ => Err(BadCase),
+    }
+}
+
+// The words of a case.
+
+fn number(word: &[u8]) -> Result<u64, BadCase> {
+    if word.is_empty() || word.len() > 20 {
+        return Err(BadCase);
+    }
+    let mut sum = 0u64;
+    for &byte in word {
+        if !byte.is_ascii_digit() {
+            return Err(BadCase);
+        }
+        let digit = u64::from(byte - b'0');
+        sum = sum.checked_mul(10).and_then(|sum| sum.checked_add(digit)).ok_or(BadCase)?;
+    }
+    Ok(sum)
+}
+
+fn narrow(number: u64, most: u64) -> Result<u64, BadCase> {
+    if number > most { Err(BadCase) } else { Ok(number) }
+}
+
+fn read_bytes(word: &[u8]) -> Result<Vec<u8>, BadCase> {
+    if word == b"-" {
+        return Ok(Vec::new());
+    }
+    if let [b'z', count @ ..] = word {
+        return Ok(vec![0; number(count)? as usize]);
+    }
+    if word.is_empty() || word.len() % 2 != 0 {
+        return Err(BadCase);
+    }
+    word.chunks_exact(2).map(|pair| Ok(digit(pair[0])? << 4 | digit(pair[1])?)).collect()
+}
+
+fn digit(byte: u8) -> Result<u8, BadCase> {
+    match byte {
+        b'0'..=b'9' => Ok(byte - b'0'),
+        b'a'..=b'f' => Ok(byte - b'a' + 10),
+        _ => Err(BadCase),
+    }
+}
+
+fn read_words(word: &[u8]) -> Result<Vec<u64>, BadCase> {
+    if word == b"-" {
+        return Ok(Vec::new());
+    }
+    let mut words = Vec::with_capacity(1 + word.iter().filter(|&&byte| byte == b',').count());
+    for text in word.split(|&byte| byte == b',') {
+        words.push(number(text)?);
+    }
+    Ok(words)
+}
+
+fn read_id(word: &[u8]) -> Result<Vec<u8>, BadCase> {
+    if word.len() != 32 {
+        return Err(BadCase);
+    }
+    read_bytes(word)
+}
+
+fn header(kind: &[u8], flags: &[u8], id: &[u8]) -> Result<(u64, u16, Vec<u8>), BadCase> {
+    Ok((narrow(number(kind)?, 2)?, narrow(number(flags)?, 0xffff)? as u16, read_id(id)?))
+}
+
+/// A lent table of so many words, or as many as can matter.
+fn table(words: u64, most: usize) -> Vec<u64> {
+    vec![FILL_WORD; words.min(most as u64) as usize]
+}
+
+// The words of an answer.
+
+fn push_hex(text: &mut String, bytes: &[u8]) {
+    const DIGITS: &[u8; 16] = b"0123456789abcdef";
+    if bytes.is_empty() {
+        text.push('-');
+        return;
+    }
+    text.reserve(2 * bytes.len());
+    for byte in bytes {
+        text.push(DIGITS[usize::from(byte >> 4)] as char);
+        text.push(DIGITS[usize::from(byte & 15)] as char);
+    }
+}
+
+fn push_list(text: &mut String, words: &[u64]) {
+    if words.is_empty() {
+        text.push('-');
+        return;
+    }
+    for (index, word) in words.iter().enumerate() {
+        if index > 0 {
+            text.push(',');
+        }
+        let _ = write!(text, "{word}");
+    }
+}
+
+/// How many values document 01's number carries.
+fn carried(number: u64) -> usize {
+    match number {
+        1 | 2 | 3 | 10 | 12 | 13 | 14 | 15 => 1,
+        4 | 5 | 6 | 8 | 9 | 11 | 18 => 2,
+        7 | 17 => 3,
+        _ => 0,
+    }
+}
+
+/// A refusal, with the consumed count where one is told; values beyond those it carries must be 0.
+fn refusal(outcome: &Outcome, consumed: bool) -> String {
+    let mut text = format!("refused {}", outcome.number);
+    if consumed {
+        let _ = write!(text, " {}", outcome.count);
+    } else {
+        assert!(outcome.count == 0);
+    }
+    let count = carried(outcome.number);
+    for value in &outcome.values[..count] {
+        let _ = write!(text, " {value}");
+    }
+    assert!(outcome.values[count..].iter().all(|&value| value == 0));
+    text
+}
+
+fn or_refusal(outcome: &Outcome, accepted: impl FnOnce() -> String) -> String {
+    assert!(outcome.kind == 0 || outcome.kind == 2);
+    if outcome.kind == face::ACCEPTED { accepted() } else { refusal(outcome, false) }
+}
+
+fn mark(mut text: String, kept: bool) -> String {
+    if !kept {
+        text.push_str(" touched");
+    }
+    text
+}
+
+fn words_kept(words: &[u64]) -> bool {
+    words.iter().all(|&word| word == FILL_WORD)
+}
+
+fn bytes_kept(bytes: &[u8]) -> bool {
+    bytes.iter().all(|&byte| byte == FILL)
+}
+
+// The checksum and GUIDs.
+
+/// The register is held byte-swapped: its bytes turned round are the checksum.
+fn crc(stretches: &[&[u8]]) -> Answer {
+    let mut register = 0;
+    for stretch in stretches {
+        register = face::update(register, &read_bytes(stretch)?);
+    }
+    Ok(format!("ok {:016x}", register.swap_bytes()))
+}
+
+fn guid_print(id: &[u8]) -> Answer {
+    let mut out = [FILL; 48];
+    let outcome = face::guid_print(id, &mut out);
+    assert!(outcome.kind == face::ACCEPTED);
+    let (text, rest) = out.split_at(outcome.count as usize);
+    Ok(mark(format!("ok {}", String::from_utf8_lossy(text)), bytes_kept(rest)))
+}
+
+fn wire(words: &[u64]) -> Vec<u8> {
+    words.iter().flat_map(|&word| (word as u32).to_le_bytes()).collect()
+}
+
+fn guid_read(text: &[u8]) -> Answer {
+    let outcome = face::guid_parse(text);
+    Ok(or_refusal(&outcome, || {
+        let mut text = "ok ".to_string();
+        push_hex(&mut text, &wire(&outcome.values[..4]));
+        text
+    }))
+}
+
+fn guid_parts(id: &[u8]) -> Answer {
+    let [a, b, c, d, ..] = face::guid_parts(id).values;
+    let [first, second, ..] = face::guid_halves(id).values;
+    let null = u8::from(face::guid_is_null(id));
+    Ok(format!("ok {a} {b} {c} {d} {first} {second} {null}"))
+}
+
+// Packets.
+
+fn packet(limit: u64, ceiling: Option<u32>, room: u64, input: &[u8]) -> Answer {
+    // Each part has twelve bytes of headers, so more room than that cannot matter.
+    let mut parts = table(room.saturating_mul(2), 2 * (input.len() / 12 + 8));
+    let outcome = match ceiling {
+        Some(ceiling) => face::decode_with(input, limit, ceiling, &mut parts),
+        None => face::decode(input, limit, &mut parts),
+    };
+    if outcome.kind == face::MORE {
+        assert!(outcome.count == 0 && outcome.number == 0 && outcome.values == [0; 7]);
+        return Ok(mark("more".to_string(), words_kept(&parts)));
+    }
+    if outcome.kind != face::ACCEPTED {
+        return Ok(mark(refusal(&outcome, true), words_kept(&parts)));
+    }
+    let [kind, flags, .., count] = outcome.values;
+    let mut text = format!("ok {} {kind} {flags} ", outcome.count);
+    push_hex(&mut text, &wire(&outcome.values[2..6]));
+    let _ = write!(text, " {count}");
+    let (entries, rest) = parts.split_at(2 * count as usize);
+    for entry in entries.chunks_exact(2) {
+        match entry {
+            [0, NULL] => text.push_str(" null"),
+            entry => {
+                let _ = write!(text, " {}+{}", entry[0], entry[1]);
+            }
+        }
+    }
+    Ok(mark(text, words_kept(rest)))
+}
+
+/// At most so many bytes can be written of an area's stretches.
+fn most(area: &[u8], fixed: u64, lengths: impl Iterator<Item = u64>) -> u64 {
+    lengths.filter(|&length| length <= area.len() as u64).fold(fixed, u64::saturating_add)
+}
+
+fn written(outcome: &Outcome, out: &[u8]) -> String {
+    if outcome.kind != face::ACCEPTED {
+        return mark(or_refusal(outcome, String::new), bytes_kept(out));
+    }
+    let (bytes, rest) = out.split_at(outcome.count as usize);
+    let mut text = format!("ok {} ", outcome.count);
+    push_hex(&mut text, bytes);
+    mark(text, bytes_kept(rest))
+}
+
+fn packet_write(kind: u64, flags: u16, id: &[u8], room: u64, area: &[u8], parts: &[u64]) -> Answer {
+    let most = most(area, 64 + 6 * parts.len() as u64, parts.iter().skip(1).step_by(2).copied());
+    let mut out = vec![FILL; room.min(most) as usize];
+    let outcome = face::encode(kind, flags, id, area, parts, &mut out);
+    Ok(written(&outcome, &out))
+}
+
+fn part(index: u64, input: &[u8], parts: &[u64]) -> Answer {
+    let index = index as usize;
+    let [offset, length, ..] = face::part(input, parts, index).values;
+    let mut text = "ok ".to_string();
+    push_hex(&mut text, &input[offset as usize..][..length as usize]);
+    let _ = write!(text, " {:016x}", face::part_checksum(input, parts, index));
+    Ok(text)
+}
+
+// Rowsets.
+
+fn rowset(rows: u64, values: u64, input: &[u8]) -> Answer {
+    // Each row and each value has eight bytes, so more room than that cannot matter.
+    let most = input.len() / 8 + 8;
+    let mut rows = table(rows, most);
+    let mut values = table(values.saturating_mul(5), 5 * most);
+    let outcome = face::decode_rowset(input, &mut rows, &mut values);
+    if outcome.kind != face::ACCEPTED {
+        let kept = words_kept(&rows) && words_kept(&values);
+        return Ok(mark(or_refusal(&outcome, String::new), kept));
+    }
+    let [row_count, value_count, ..] = outcome.values;
+    let (rows, rows_rest) = rows.split_at(row_count as usize);
+    let (values, values_rest) = values.split_at(5 * value_count as usize);
+    let mut text = format!("ok {row_count} {value_count} ");
+    push_list(&mut text, rows);
+    text.push(' ');
+    push_list(&mut text, values);
+    Ok(mark(text, words_kept(rows_rest) && words_kept(values_rest)))
+}
+
+fn rowset_write(room: u64, area: &[u8], rows: &[u64], values: &[u64]) -> Answer {
+    let fixed = 64 + 8 * rows.len() as u64 + 8 * values.len() as u64;
+    let most = most(area, fixed, values.iter().skip(4).step_by(5).copied());
+    let mut out = vec![FILL; room.min(most) as usize];
+    let outcome = face::encode_rowset(area, rows, values, &mut out);
+    Ok(written(&outcome, &out))
+}
+
+fn value(at: u64, input: &[u8]) -> Answer {
+    let outcome = face::read_value(input, at as usize);
+    Ok(or_refusal(&outcome, || {
+        let [id, kind, aggregate, word, length, ..] = outcome.values;
+        format!("ok {id} {kind} {aggregate} {word} {length} {}", outcome.count)
+    }))
+}

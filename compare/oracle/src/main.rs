@@ -1,0 +1,553 @@
+//! Answers the comparison's cases with the Rust at the pinned commit: cases on standard input, one
+//! a line, and one answer line for each. The Rust is called and its results are written down; no
+//! answer is worked out here. Where the Rust has none (short room, a table that breaks a rule, the
+//! plain-form check, text that is no UTF-8, a start past the end), the answer is `skip`.
+
+use std::io::{self, BufRead, BufReader, BufWriter, Write};
+use std::panic::{AssertUnwindSafe, catch_unwind};
+
+use bytes::{Bytes, BytesMut};
+use oracle::bus::packet::{self, Packet, PacketError, PacketFlags, PacketType};
+use oracle::crc64::{self, Crc64};
+use oracle::guid::Guid;
+use oracle::wire::{self, MaybeRow, UnversionedValue, Value, ValueType, WireError};
+
+const NULL: u64 = u64::MAX;
+
+/// Why a case got no answer: it is no case, or the Rust has none.
+enum Without {
+    BadCase,
+    Skip,
+}
+
+type Outcome = Result<String, Without>;
+
+fn main() -> io::Result<()> {
+    let mut input = BufReader::with_capacity(1 << 18, io::stdin().lock());
+    let mut output = BufWriter::with_capacity(1 << 18, io::stdout().lock());
+    let mut line = Vec::new();
+    loop {
+        if input.buffer().is_empty() {
+            output.flush()?;
+        }
+        line.clear();
+        if input.read_until(b'\n', &mut line)? == 0 {
+            return output.flush();
+        }
+        if line.last() == Some(&b'\n') {
+            line.pop();
+        }
+        match catch_unwind(AssertUnwindSafe(|| answer(&line))) {
+            Ok(Ok(text)) => output.write_all(text.as_bytes())?,
+            Ok(Err(Without::BadCase)) => output.write_all(b"bad case")?,
+            Ok(Err(Without::Skip)) => output.write_all(b"skip")?,
+            Err(_) => output.write_all(b"panicked")?,
+        }
+        output.write_all(b"\n")?;
+    }
+}
+
+fn answer(line: &[u8]) -> Outcome {
+    let words: Vec<&[u8]> = line.split(|&byte| byte == b' ').collect();
+    match (words[0], &words[1..]) {
+        (b"crc", stretches) if !stretches.is_empty() => crc(stretches),
+        (b"checksum", [bytes]) => Ok(format!("ok {:016x}", crc64::checksum(&read_bytes(bytes)?))),
+        (b"guid-print", [id]) => Ok(format!("ok {}", read_id(id)?)),
+        (b"guid-read", [text]) => guid_read(&read_bytes(text)?),
+        (b"guid-parts", [id]) => guid_parts(read_id(id)?),
+        (b"packet", [limit, ceiling, room, bytes]) => {
+            let ceiling = narrow(number(ceiling)?, u64::from(u32::MAX))? as u32;
+            packet_read(number(limit)?, Some(ceiling), number(room)?, bytes)
+        }
+        (b"packet-default", [limit, room, bytes]) => {
+            packet_read(number(limit)?, None, number(room)?, bytes)
+        }
+        (b"packet-write", [kind, flags, id, room, area, parts]) => {
+            let room = number(room)?;
+            packet_write(&packet_of(kind, flags, id, area, parts)?, room)
+        }
+        (b"packet-size", [kind, flags, id, area, parts]) => {
+            let packet = packet_of(kind, flags, id, area, parts)?;
+            Ok(match packet::validate(&packet) {
+                Ok(()) => format!("ok {}", packet::encoded_size(&packet)),
+                Err(error) => packet_refusal(error, None),
+            })
+        }
+        (b"validate", [kind, flags, id, area, parts]) => {
+            let packet = packet_of(kind, flags, id, area, parts)?;
+            Ok(match packet::validate(&packet) {
+                Ok(()) => "ok".to_string(),
+                Err(error) => packet_refusal(error, None),
+            })
+        }
+        (b"part", [index, bytes, parts]) => part(number(index)?, bytes, parts),
+        (b"contains", [flags, other]) => {
+            let flags = PacketFlags(narrow(number(flags)?, 0xffff)? as u16);
+            let other = PacketFlags(narrow(number(other)?, 0xffff)? as u16);
+            Ok(format!("ok {}", u8::from(flags.contains(other))))
+        }
+        (b"rowset", [rows, values, bytes]) => {
+            rowset_read(number(rows)?, number(values)?, read_bytes(bytes)?)
+        }
+        (b"rowset-write", [room, area, rows, values]) => {
+            let room = number(room)?;
+            rowset_write(&rows_of(area, rows, values)?, room)
+        }
+        (b"rowset-size", [area, rows, values]) => rowset_size(&rows_of(area, rows, values)?),
+        (b"value", [at, bytes]) => value(number(at)?, &read_bytes(bytes)?),
+        (b"plain", [bytes]) => {
+            read_bytes(bytes)?;
+            Err(Without::Skip)
+        }
+        _ => Err(Without::BadCase),
+    }
+}
+
+// The words of a case.
+
+fn number(word: &[u8]) -> Result<u64, Without> {
+    if word.is_empty() || word.len() > 20 || !word.iter().all(u8::is_ascii_digit) {
+        return Err(Without::BadCase);
+    }
+    let text = std::str::from_utf8(word).map_err(|_| Without::BadCase)?;
+    text.parse().map_err(|_| Without::BadCase)
+}
+
+fn narrow(number: u64, most: u64) -> Result<u64, Without> {
+    if number > most {
+        Err(Without::BadCase)
+    } else {
+        Ok(number)
+    }
+}
+
+fn read_bytes(word: &[u8]) -> Result<Vec<u8>, Without> {
+    if word == b"-" {
+        return Ok(Vec::new());
+    }
+    if let [b'z', count @ ..] = word {
+        return Ok(vec![0; number(count)? as usize]);
+    }
+    if word.is_empty() || word.len() % 2 != 0 {
+        return Err(Without::BadCase);
+    }
+    word.chunks_exact(2)
+        .map(|pair| Ok(digit(pair[0])? << 4 | digit(pair[1])?))
+        .collect()
+}
+
+fn digit(byte: u8) -> Result<u8, Without> {
+    match byte {
+        b'0'..=b'9' => Ok(byte - b'0'),
+        b'a'..=b'f' => Ok(byte - b'a' + 10),
+        _ => Err(Without::BadCase),
+    }
+}
+
+fn read_words(word: &[u8]) -> Result<Vec<u64>, Without> {
+    if word == b"-" {
+        return Ok(Vec::new());
+    }
+    word.split(|&byte| byte == b',').map(number).collect()
+}
+
+fn read_id(word: &[u8]) -> Result<Guid, Without> {
+    if word.len() != 32 {
+        return Err(Without::BadCase);
+    }
+    let bytes = read_bytes(word)?;
+    Ok(Guid(bytes.try_into().map_err(|_| Without::BadCase)?))
+}
+
+// The words of an answer.
+
+fn hex(bytes: &[u8]) -> String {
+    const DIGITS: &[u8; 16] = b"0123456789abcdef";
+    if bytes.is_empty() {
+        return "-".to_string();
+    }
+    let mut text = String::with_capacity(2 * bytes.len());
+    for byte in bytes {
+        text.push(DIGITS[usize::from(byte >> 4)] as char);
+        text.push(DIGITS[usize::from(byte & 15)] as char);
+    }
+    text
+}
+
+fn list(words: &[u64]) -> String {
+    if words.is_empty() {
+        return "-".to_string();
+    }
+    let texts: Vec<String> = words.iter().map(u64::to_string).collect();
+    texts.join(",")
+}
+
+fn refused(number: u8, consumed: Option<usize>, values: &[u64]) -> String {
+    let mut text = format!("refused {number}");
+    let consumed = consumed.map(|count| count as u64);
+    for value in consumed.iter().chain(values) {
+        text.push_str(&format!(" {value}"));
+    }
+    text
+}
+
+// The checksum and GUIDs.
+
+fn crc(stretches: &[&[u8]]) -> Outcome {
+    let mut register = Crc64::new();
+    for stretch in stretches {
+        register.update(&read_bytes(stretch)?);
+    }
+    Ok(format!("ok {:016x}", register.finish()))
+}
+
+fn guid_read(text: &[u8]) -> Outcome {
+    let text = std::str::from_utf8(text).map_err(|_| Without::Skip)?;
+    Ok(match text.parse::<Guid>() {
+        Ok(guid) => format!("ok {}", hex(&guid.0)),
+        Err(_) => refused(16, None, &[]),
+    })
+}
+
+fn guid_parts(guid: Guid) -> Outcome {
+    let [a, b, c, d] = guid.parts();
+    let (first, second) = guid.halves();
+    assert!(Guid::from_parts([a, b, c, d]) == guid && Guid::from_halves(first, second) == guid);
+    let null = u8::from(guid.is_null());
+    Ok(format!("ok {a} {b} {c} {d} {first} {second} {null}"))
+}
+
+// Packets.
+
+fn packet_refusal(error: PacketError, consumed: Option<usize>) -> String {
+    match error {
+        PacketError::Signature(found) => refused(1, consumed, &[found.into()]),
+        PacketError::UnknownType(found) => refused(2, consumed, &[found.into()]),
+        PacketError::TooManyParts { count } => refused(3, consumed, &[count.into()]),
+        PacketError::PartTooLarge { index, size } => {
+            refused(4, consumed, &[index as u64, size.into()])
+        }
+        PacketError::FixedHeaderChecksum { expected, actual } => {
+            refused(5, consumed, &[expected, actual])
+        }
+        PacketError::VariableHeaderChecksum { expected, actual } => {
+            refused(6, consumed, &[expected, actual])
+        }
+        PacketError::PartChecksum {
+            index,
+            expected,
+            actual,
+        } => refused(7, consumed, &[index as u64, expected, actual]),
+        PacketError::MessageTooLarge { size, limit } => refused(8, consumed, &[size, limit]),
+    }
+}
+
+fn packet_read(limit: u64, ceiling: Option<u32>, room: u64, bytes: &[u8]) -> Outcome {
+    let mut input = BytesMut::from(Bytes::from(read_bytes(bytes)?));
+    let start = input.as_ptr() as usize;
+    let length = input.len();
+    let result = match ceiling {
+        Some(ceiling) => packet::decode_with(&mut input, limit, ceiling),
+        None => packet::decode(&mut input, limit),
+    };
+    let consumed = length - input.len();
+    let packet = match result {
+        Ok(Some(packet)) => packet,
+        Ok(None) => {
+            assert!(consumed == 0);
+            return Ok("more".to_string());
+        }
+        Err(error) => return Ok(packet_refusal(error, Some(consumed))),
+    };
+    let count = packet.parts.len();
+    if count as u64 > room {
+        return Err(Without::Skip);
+    }
+    let mut text = format!(
+        "ok {consumed} {} {} {} {count}",
+        packet.packet_type as u16,
+        packet.flags.0,
+        hex(&packet.id.0)
+    );
+    // An empty part has no address: it stands where the one before it ends.
+    let mut place = 44 + 12 * count;
+    for part in &packet.parts {
+        match part {
+            None => text.push_str(" null"),
+            Some(bytes) => {
+                if !bytes.is_empty() {
+                    place = bytes.as_ptr() as usize - start;
+                }
+                text.push_str(&format!(" {place}+{}", bytes.len()));
+                place += bytes.len();
+            }
+        }
+    }
+    Ok(text)
+}
+
+/// The packet that a case describes; `skip` where its table breaks a rule.
+fn packet_of(
+    kind: &[u8],
+    flags: &[u8],
+    id: &[u8],
+    area: &[u8],
+    parts: &[u8],
+) -> Result<Packet, Without> {
+    let packet_type = match number(kind)? {
+        0 => PacketType::Message,
+        1 => PacketType::Ack,
+        2 => PacketType::SslAck,
+        _ => return Err(Without::BadCase),
+    };
+    let flags = PacketFlags(narrow(number(flags)?, 0xffff)? as u16);
+    let id = read_id(id)?;
+    let area = Bytes::from(read_bytes(area)?);
+    let parts = parts_of(&area, parts)?;
+    Ok(Packet {
+        packet_type,
+        flags,
+        id,
+        parts,
+    })
+}
+
+/// The parts of a table, without its words in between: a table may have 2^28 entries and more.
+fn parts_of(area: &Bytes, text: &[u8]) -> Result<Vec<Option<Bytes>>, Without> {
+    if text == b"-" {
+        return Ok(Vec::new());
+    }
+    let mut words = text.split(|&byte| byte == b',').map(number);
+    let mut parts = Vec::with_capacity((1 + text.iter().filter(|&&byte| byte == b',').count()) / 2);
+    let mut kept = true;
+    while let Some(offset) = words.next() {
+        let offset = offset?;
+        let part = match words.next() {
+            Some(length) => part_of(area, offset, length?),
+            None => Err(Without::Skip),
+        };
+        // A word that is no number, further on, still makes the line no case.
+        match part {
+            Ok(part) => parts.push(part),
+            Err(_) => kept = false,
+        }
+    }
+    if kept { Ok(parts) } else { Err(Without::Skip) }
+}
+
+fn part_of(area: &Bytes, offset: u64, length: u64) -> Result<Option<Bytes>, Without> {
+    if offset == 0 && length == NULL {
+        return Ok(None);
+    }
+    Ok(Some(stretch(area, offset, length)?))
+}
+
+fn stretch(area: &Bytes, offset: u64, length: u64) -> Result<Bytes, Without> {
+    match offset.checked_add(length) {
+        Some(end) if end <= area.len() as u64 => Ok(area.slice(offset as usize..end as usize)),
+        _ => Err(Without::Skip),
+    }
+}
+
+fn packet_write(packet: &Packet, room: u64) -> Outcome {
+    if let Err(error) = packet::validate(packet) {
+        return Ok(packet_refusal(error, None));
+    }
+    let size = packet::encoded_size(packet);
+    if size as u64 > room {
+        return Err(Without::Skip);
+    }
+    let mut output = BytesMut::new();
+    Ok(match packet::encode(packet, &mut output) {
+        Ok(()) => {
+            assert!(output.len() == size);
+            format!("ok {size} {}", hex(&output))
+        }
+        Err(error) => packet_refusal(error, None),
+    })
+}
+
+fn part(index: u64, bytes: &[u8], parts: &[u8]) -> Outcome {
+    let input = Bytes::from(read_bytes(bytes)?);
+    let words = read_words(parts)?;
+    let Some(entry) = words
+        .chunks_exact(2)
+        .nth(index.min(usize::MAX as u64) as usize)
+    else {
+        return Err(Without::Skip);
+    };
+    let part = part_of(&input, entry[0], entry[1])?;
+    let sum = packet::part_checksum(part.as_ref());
+    Ok(format!("ok {} {sum:016x}", hex(&part.unwrap_or_default())))
+}
+
+// Rowsets.
+
+fn wire_refusal(error: WireError) -> String {
+    match error {
+        WireError::Truncated { offset, needed } => {
+            refused(9, None, &[offset as u64, needed as u64])
+        }
+        WireError::TooManyRows { count } => refused(10, None, &[count]),
+        WireError::TooManyValues { row, count } => refused(11, None, &[row as u64, count]),
+        WireError::ValueTooLong { length } => refused(12, None, &[length.into()]),
+        WireError::RowsetTooLarge { size } => refused(13, None, &[size as u64]),
+        WireError::AllocationFailed { size } => panic!("no memory for {size} bytes"),
+        WireError::UnknownValueType(code) => refused(14, None, &[code.into()]),
+        WireError::TrailingBytes(count) => refused(15, None, &[count as u64]),
+    }
+}
+
+/// The five words of a value's entry. `place` is where the value's header begins, for an empty blob
+/// has no address and stands after its header; `start` is the address that offsets count from.
+fn entry_of(value: &UnversionedValue, start: usize, place: usize) -> [u64; 5] {
+    let (word, length) = match &value.value {
+        Value::Null => (0, 0),
+        Value::Int64(number) => (*number as u64, 0),
+        Value::Uint64(number) => (*number, 0),
+        Value::Double(number) => (number.to_bits(), 0),
+        Value::Boolean(truth) => (u64::from(*truth), 0),
+        Value::String(blob) | Value::Any(blob) | Value::Composite(blob) if blob.is_empty() => {
+            (place as u64 + 8, 0)
+        }
+        Value::String(blob) | Value::Any(blob) | Value::Composite(blob) => {
+            ((blob.as_ptr() as usize - start) as u64, blob.len() as u64)
+        }
+    };
+    let kind = value.value.value_type() as u64;
+    [value.id.into(), kind, value.aggregate.into(), word, length]
+}
+
+fn rowset_read(row_room: u64, value_room: u64, bytes: Vec<u8>) -> Outcome {
+    let input = Bytes::from(bytes);
+    let start = input.as_ptr() as usize;
+    let rows = match wire::decode_rowset(&input) {
+        Ok(rows) => rows,
+        Err(error) => return Ok(wire_refusal(error)),
+    };
+    let mut row_words = Vec::new();
+    let mut value_words = Vec::new();
+    let mut place = 8;
+    for row in &rows {
+        place += 8;
+        row_words.push(row.as_ref().map_or(NULL, |row| row.len() as u64));
+        for value in row.iter().flatten() {
+            value_words.extend(entry_of(value, start, place));
+            place += value.wire_size();
+        }
+    }
+    let (row_count, value_count) = (row_words.len(), value_words.len() / 5);
+    if row_count as u64 > row_room || value_count as u64 > value_room {
+        return Err(Without::Skip);
+    }
+    Ok(format!(
+        "ok {row_count} {value_count} {} {}",
+        list(&row_words),
+        list(&value_words)
+    ))
+}
+
+/// The rows that a case describes; `skip` where its tables break a rule.
+fn rows_of(area: &[u8], rows: &[u8], values: &[u8]) -> Result<Vec<MaybeRow>, Without> {
+    let area = Bytes::from(read_bytes(area)?);
+    let row_words = read_words(rows)?;
+    let value_words = read_words(values)?;
+    if value_words.len() % 5 != 0 {
+        return Err(Without::Skip);
+    }
+    let counts = row_words.iter().filter(|&&word| word != NULL);
+    let total: u128 = counts.map(|&count| u128::from(count)).sum();
+    if total != (value_words.len() / 5) as u128 {
+        return Err(Without::Skip);
+    }
+    let mut entries = value_words
+        .chunks_exact(5)
+        .map(|entry| value_of(&area, entry));
+    let mut table = Vec::with_capacity(row_words.len());
+    for &word in &row_words {
+        table.push(match word {
+            NULL => None,
+            count => Some(
+                entries
+                    .by_ref()
+                    .take(count as usize)
+                    .collect::<Result<_, _>>()?,
+            ),
+        });
+    }
+    Ok(table)
+}
+
+fn value_of(area: &Bytes, entry: &[u64]) -> Result<UnversionedValue, Without> {
+    let &[id, kind, aggregate, word, length] = entry else {
+        return Err(Without::Skip);
+    };
+    if id > 0xffff || aggregate > 1 || (kind < 16 && length != 0) {
+        return Err(Without::Skip);
+    }
+    let value = match kind {
+        2 if word == 0 => Value::Null,
+        3 => Value::Int64(word as i64),
+        4 => Value::Uint64(word),
+        5 => Value::Double(f64::from_bits(word)),
+        6 if word <= 1 => Value::Boolean(word == 1),
+        16 => Value::String(stretch(area, word, length)?),
+        17 => Value::Any(stretch(area, word, length)?),
+        18 => Value::Composite(stretch(area, word, length)?),
+        _ => return Err(Without::Skip),
+    };
+    Ok(UnversionedValue {
+        id: id as u16,
+        aggregate: aggregate == 1,
+        value,
+    })
+}
+
+fn rowset_write(rows: &[MaybeRow], room: u64) -> Outcome {
+    match wire::encode_rowset(rows) {
+        Ok(bytes) if bytes.len() as u64 > room => Err(Without::Skip),
+        Ok(bytes) => Ok(format!("ok {} {}", bytes.len(), hex(&bytes))),
+        Err(error) => Ok(wire_refusal(error)),
+    }
+}
+
+/// The Rust measures what its writer refuses, too; document 01 gives the writer's refusal there.
+fn rowset_size(rows: &[MaybeRow]) -> Outcome {
+    Ok(match wire::encode_rowset(rows) {
+        Ok(_) => format!("ok {}", wire::encoded_size(rows)),
+        Err(error) => wire_refusal(error),
+    })
+}
+
+/// The Rust's reader of one value is private: the bytes from `at` on are read as the only value of a
+/// rowset of one row, whose two count words are taken off every offset again.
+fn value(at: u64, bytes: &[u8]) -> Outcome {
+    const COUNTS: usize = 16;
+    if at > bytes.len() as u64 {
+        return Err(Without::Skip);
+    }
+    let at = at as usize;
+    let mut framed = vec![1, 0, 0, 0, 0, 0, 0, 0, 1, 0, 0, 0, 0, 0, 0, 0];
+    framed.extend_from_slice(&bytes[at..]);
+    let mut input = Bytes::from(framed);
+    let mut result = wire::decode_rowset(&input);
+    if let Err(WireError::TrailingBytes(count)) = result {
+        input.truncate(input.len() - count);
+        result = wire::decode_rowset(&input);
+    }
+    let rows = match result {
+        Ok(rows) => rows,
+        Err(WireError::Truncated { offset, needed }) => {
+            let offset = offset - COUNTS + at;
+            return Ok(wire_refusal(WireError::Truncated { offset, needed }));
+        }
+        Err(error) => return Ok(wire_refusal(error)),
+    };
+    let value = &rows[0].as_ref().expect("one row")[0];
+    let [id, kind, aggregate, mut word, length] = entry_of(value, input.as_ptr() as usize, COUNTS);
+    if ValueType::is_string_like(value.value.value_type()) {
+        word = word - COUNTS as u64 + at as u64;
+    }
+    let next = input.len() - COUNTS + at;
+    Ok(format!("ok {id} {kind} {aggregate} {word} {length} {next}"))
+}

@@ -1,0 +1,80 @@
+-- One result for each statement: two outcomes, with what the lent buffers hold at exit, that meet an exported function's statement
+-- are equal. Assumes nothing.
+use Prim.Native.Nat.{ℕ}
+use mathlib.Core.Path.{_≡_, sym, _∙_}
+use mathlib.Core.Bool.{Bool}
+use mathlib.Core.List.{List}
+use Rattle.words.specs.Statement.{OneResult}
+use Rattle.words.proofs.Unique.{equal-to-one}
+use Rattle.crc64.specs.Statement.{ChecksumIs}
+use Rattle.packet_table.specs.Statement.{PartChecksumIs}
+use Rattle.wire.specs.Statement.{TellsPlain}
+use Rattle.face.specs.declared.outcome.Outcome.{Outcome}
+use Rattle.face.specs.Statement.{Updates, Prints, Parses, GivesParts, GivesHalves, TellsNull, Decodes, Encodes, Measures, Validates, LendsPart, Contains, DecodesRowset, EncodesRowset, MeasuresRowset, ReadsValue}
+
+-- so of two things, and of three
+equal-to-two : {A B : Type 0} (a : A) (b : B) → OneResult (λ (x : A × B). (x .0 ≡ a) × (x .1 ≡ b))
+equal-to-two a b x x′ p q = λ i. ((p .0 ∙ sym (q .0)) i, (p .1 ∙ sym (q .1)) i)
+
+equal-to-three : {A B C : Type 0} (a : A) (b : B) (c : C) → OneResult (λ (x : A × B × C). (x .0 ≡ a) × (x .1 ≡ b) × (x .2 ≡ c))
+equal-to-three a b c x x′ p q = λ i. ((p .0 ∙ sym (q .0)) i, (p .1 ∙ sym (q .1)) i, (p .2 ∙ sym (q .2)) i)
+
+pub cablefinch-checksum-unique : (bytes : List ℕ) → OneResult (ChecksumIs bytes)
+cablefinch-checksum-unique bytes = equal-to-one _
+
+pub cablefinch-update-unique : (register : ℕ) (bytes : List ℕ) → OneResult (Updates register bytes)
+cablefinch-update-unique register bytes = equal-to-one _
+
+pub cablefinch-guid-print-unique : (id before : List ℕ) → OneResult (λ (x : Outcome × List ℕ). Prints id before (x .0) (x .1))
+cablefinch-guid-print-unique id before = equal-to-two _ _
+
+pub cablefinch-guid-parse-unique : (text : List ℕ) → OneResult (Parses text)
+cablefinch-guid-parse-unique text = equal-to-one _
+
+pub cablefinch-guid-parts-unique : (id : List ℕ) → OneResult (GivesParts id)
+cablefinch-guid-parts-unique id = equal-to-one _
+
+pub cablefinch-guid-halves-unique : (id : List ℕ) → OneResult (GivesHalves id)
+cablefinch-guid-halves-unique id = equal-to-one _
+
+pub cablefinch-guid-is-null-unique : (id : List ℕ) → OneResult (TellsNull id)
+cablefinch-guid-is-null-unique id = equal-to-one _
+
+pub cablefinch-decode-with-unique : (s : List ℕ) (limit ceiling : ℕ) (table : List ℕ) → OneResult (λ (x : Outcome × List ℕ). Decodes s limit ceiling table (x .0) (x .1))
+cablefinch-decode-with-unique s limit ceiling table = equal-to-two _ _
+
+pub cablefinch-decode-unique : (s : List ℕ) (limit : ℕ) (table : List ℕ) → OneResult (λ (x : Outcome × List ℕ). Decodes s limit 65536 table (x .0) (x .1))
+cablefinch-decode-unique s limit table = cablefinch-decode-with-unique s limit 65536 table
+
+pub cablefinch-encode-unique : (type flags : ℕ) (id area table out : List ℕ) → OneResult (λ (x : Outcome × List ℕ). Encodes type flags id area table out (x .0) (x .1))
+cablefinch-encode-unique type flags id area table out = equal-to-two _ _
+
+pub cablefinch-encoded-size-unique : (type : ℕ) (area table : List ℕ) → OneResult (Measures type area table)
+cablefinch-encoded-size-unique type area table = equal-to-one _
+
+pub cablefinch-validate-unique : (area table : List ℕ) → OneResult (Validates area table)
+cablefinch-validate-unique area table = equal-to-one _
+
+pub cablefinch-part-unique : (input table : List ℕ) (i : ℕ) → OneResult (LendsPart input table i)
+cablefinch-part-unique input table i = equal-to-one _
+
+pub cablefinch-part-checksum-unique : (input table : List ℕ) (i : ℕ) → OneResult (PartChecksumIs input table i)
+cablefinch-part-checksum-unique input table i = equal-to-one _
+
+pub cablefinch-contains-unique : (flags other : ℕ) → OneResult (Contains flags other)
+cablefinch-contains-unique flags other = equal-to-one _
+
+pub cablefinch-decode-rowset-unique : (s rows values : List ℕ) → OneResult (λ (x : Outcome × List ℕ × List ℕ). DecodesRowset s rows values (x .0) (x .1) (x .2))
+cablefinch-decode-rowset-unique s rows values = equal-to-three _ _ _
+
+pub cablefinch-encode-rowset-unique : (area rows values before : List ℕ) → OneResult (λ (x : Outcome × List ℕ). EncodesRowset area rows values before (x .0) (x .1))
+cablefinch-encode-rowset-unique area rows values before = equal-to-two _ _
+
+pub cablefinch-rowset-size-unique : (area rows values : List ℕ) → OneResult (MeasuresRowset area rows values)
+cablefinch-rowset-size-unique area rows values = equal-to-one _
+
+pub cablefinch-read-value-unique : (s : List ℕ) (at : ℕ) → OneResult (ReadsValue s at)
+cablefinch-read-value-unique s at = equal-to-one _
+
+pub cablefinch-is-plain-unique : (s : List ℕ) → OneResult (TellsPlain s)
+cablefinch-is-plain-unique s = equal-to-one _

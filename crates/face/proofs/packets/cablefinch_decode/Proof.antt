@@ -1,0 +1,25 @@
+-- `cablefinch_decode` meets its contract. Assumes nothing.
+use Rattle.face.proofs.OutcomeLaws.{told}
+use mathlib.Core.Path.{_∙_, ap}
+use Rattle.words.specs.Answer.{Answer}
+use Rattle.packet.specs.Reading.{tableAfter}
+use borrow.Author.Needs.{needs}
+use Rattle.face.proofs.packets.cablefinch_decode.Statement.{statement}
+use Rattle.face.proofs.packets.cablefinch_decode.Tie as tie
+
+decode-requires : tie.Need-decode-requires
+decode-requires c κs = search needs
+
+decoded-requires : tie.Need-decoded-requires
+decoded-requires c κs = search needs
+
+same-length : tie.Need-same-length
+same-length c = search needs
+
+returns : tie.Need-returns
+returns c =
+    let e = c .before .before .before .decode .ensures in
+    (told (e .answer) (c .decoded .ensures), e .tables ∙ ap (λ (a : Answer). tableAfter a (c .before .before .before .before .before .before .before .args .input .now) (c .before .before .before .before .before .before .before .args .parts .now)) (e .answer))
+
+pub cablefinch-decode-spec : {M : Type 1} → statement M
+cablefinch-decode-spec = tie.close (tie.spec decode-requires decoded-requires same-length returns)

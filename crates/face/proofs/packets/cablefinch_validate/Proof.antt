@@ -1,0 +1,17 @@
+-- `cablefinch_validate` meets its contract. Assumes nothing.
+use Rattle.face.proofs.OutcomeLaws.{told}
+use borrow.Author.Needs.{needs}
+use Rattle.face.proofs.packets.cablefinch_validate.Statement.{statement}
+use Rattle.face.proofs.packets.cablefinch_validate.Tie as tie
+
+validate-requires : tie.Need-validate-requires
+validate-requires c κs = search needs
+
+validated-requires : tie.Need-validated-requires
+validated-requires c κs = search needs
+
+returns : tie.Need-returns
+returns c = told (c .before .validate .ensures) (c .validated .ensures)
+
+pub cablefinch-validate-spec : {M : Type 1} → statement M
+cablefinch-validate-spec = tie.close (tie.spec validate-requires validated-requires returns)

@@ -1,0 +1,3 @@
+-- The face's definitions: an answer in words, and what each exported function promises.
+pub mod Outcome
+pub mod Statement
