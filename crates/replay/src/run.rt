@@ -23,13 +23,6 @@ use wire_value::value::Value;
 
 // Arrays by functions that tell their length alone, so that no caller's proof looks into them.
 
-// The area of a rowset that is to be written: a row of 256 values over all of it takes more than 2^30 bytes.
-fn large() -> [u8; 4_194_304]
-    ensures { λ r. ⌜ 4194304 ≡ length r ⌝ }
-{
-    [0; 4_194_304]
-}
-
 fn output() -> [u8; 8_192]
     ensures { λ r. ⌜ 8192 ≡ length r ⌝ }
 {
@@ -383,7 +376,7 @@ fn say_rowset_size(answer: wire_table::size::Measured) {
 }
 
 fn rowset_size(line: &[u8]) {
-    let mut space = large();
+    let mut space = io::buffer();
     let mut rows = filled();
     let mut values = filled_values();
     let count = bytes_into(&mut space, word(line, 1));
@@ -412,7 +405,7 @@ fn say_rowset_encoded(out: &[u8], answer: wire_write::write::Encoded) {
 }
 
 fn rowset_write(line: &[u8]) {
-    let mut space = large();
+    let mut space = io::buffer();
     let mut rows = filled();
     let mut values = filled_values();
     let mut out = output();
