@@ -91,14 +91,14 @@ pub extern "C" fn cablefinch_part(input: &[u8], parts: &[u64], index: usize) -> 
     if length == 0 {
         return flat::words(0, 0, 0, 0, 0, 0);
     }
-    if parts.len() / packet_table::ENTRY_WORDS <= index {
+    if parts.len() / packet::ENTRY_WORDS <= index {
         return flat::words(0, 0, 0, 0, 0, 0);
     }
     flat::words(
         0,
         0,
         0,
-        parts[packet_table::ENTRY_WORDS * index],
+        parts[packet::ENTRY_WORDS * index],
         length as u64,
         0,
     )
