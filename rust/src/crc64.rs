@@ -1,0 +1,69 @@
+//! The checksum that packets carry: 64 bits under the polynomial 0xe543279765927881, from 0, high
+//! bit first, without a final exclusive or.
+
+use crate::sys;
+
+/// The checksum of one stretch of bytes.
+pub fn checksum(bytes: &[u8]) -> u64 {
+    sys::checksum(bytes)
+}
+
+/// A checksum over stretches that do not lie together.
+#[derive(Debug, Clone, Copy, PartialEq, Eq, Hash, Default)]
+pub struct Crc64 {
+    /// Held byte-swapped, as the library holds it.
+    register: u64,
+}
+
+impl Crc64 {
+    /// The checksum of nothing yet.
+    pub const fn new() -> Self {
+        Self { register: 0 }
+    }
+
+    /// Folds `bytes` in.
+    pub fn update(&mut self, bytes: &[u8]) {
+        self.register = sys::update(self.register, bytes);
+    }
+
+    /// The same with `bytes` folded in.
+    #[must_use]
+    pub fn chain(mut self, bytes: &[u8]) -> Self {
+        self.update(bytes);
+        self
+    }
+
+    /// The checksum of all that was folded in.
+    pub const fn finish(&self) -> u64 {
+        self.register.swap_bytes()
+    }
+}
+
+#[cfg(test)]
+mod tests {
+    use super::*;
+
+    #[test]
+    fn vectors() {
+        assert_eq!(checksum(b""), 0);
+        assert_eq!(checksum(&[1]), 0xe543_2797_6592_7881);
+        assert_eq!(checksum(&[2]), 0x2fc5_68b9_aeb6_8983);
+        assert_eq!(checksum(&[3]), 0xca86_4f2e_cb24_f102);
+        assert_eq!(
+            checksum(&[1, 0xe5, 0x43, 0x27, 0x97, 0x65, 0x92, 0x78, 0x81]),
+            0
+        );
+    }
+
+    #[test]
+    fn stretches_fold_as_their_join() {
+        let bytes: Vec<u8> = (0..=255).collect();
+        for cut in 0..=bytes.len() {
+            let (front, back) = bytes.split_at(cut);
+            let mut sum = Crc64::new();
+            sum.update(front);
+            assert_eq!(sum.chain(back).finish(), checksum(&bytes));
+        }
+        assert_eq!(Crc64::default().finish(), 0);
+    }
+}

@@ -1,0 +1,166 @@
+//! GUIDs: sixteen bytes, four little-endian words, printed from the last word to the first.
+
+use crate::sys;
+use std::fmt;
+use std::str::FromStr;
+
+/// A GUID, held as its sixteen wire bytes.
+#[derive(Debug, Clone, Copy, PartialEq, Eq, PartialOrd, Ord, Hash, Default)]
+pub struct Guid(pub [u8; 16]);
+
+impl Guid {
+    /// All zeros, which means "none" in several fields.
+    pub const NULL: Self = Self([0; 16]);
+
+    /// The four words, in wire order.
+    pub fn parts(&self) -> [u32; 4] {
+        let [a, b, c, d, ..] = sys::guid_parts(&self.0).values;
+        [a, b, c, d].map(low)
+    }
+
+    /// The GUID of four words, in wire order.
+    pub fn from_parts(parts: [u32; 4]) -> Self {
+        let [a, b, c, d] = parts.map(u64::from);
+        Self::from_halves(a | b << 32, c | d << 32)
+    }
+
+    /// The two halves of eight bytes each.
+    pub fn halves(&self) -> (u64, u64) {
+        let [first, second, ..] = sys::guid_halves(&self.0).values;
+        (first, second)
+    }
+
+    /// The GUID of two halves.
+    pub fn from_halves(first: u64, second: u64) -> Self {
+        let both = u128::from(first) | u128::from(second) << 64;
+        Self(both.to_le_bytes())
+    }
+
+    /// The GUID of sixteen wire bytes.
+    pub const fn from_bytes(bytes: [u8; 16]) -> Self {
+        Self(bytes)
+    }
+
+    /// The sixteen wire bytes.
+    pub const fn to_bytes(self) -> [u8; 16] {
+        self.0
+    }
+
+    /// Whether all of it is zero.
+    pub fn is_null(&self) -> bool {
+        sys::guid_is_null(&self.0)
+    }
+
+    /// Reads a GUID's text from bytes that may be anything.
+    pub fn from_text(text: &[u8]) -> Result<Self, ParseGuidError> {
+        let outcome = sys::guid_parse(text);
+        if outcome.kind != sys::ACCEPTED {
+            return Err(ParseGuidError);
+        }
+        let [a, b, c, d, ..] = outcome.values;
+        Ok(Self::from_parts([a, b, c, d].map(low)))
+    }
+}
+
+/// A word that the library answers in eight bytes.
+fn low(word: u64) -> u32 {
+    (word & u64::from(u32::MAX)) as u32
+}
+
+impl fmt::Display for Guid {
+    fn fmt(&self, formatter: &mut fmt::Formatter<'_>) -> fmt::Result {
+        // Four words of eight digits and three dashes are 35 bytes.
+        let mut room = [0; 40];
+        let outcome = sys::guid_print(&self.0, &mut room);
+        let text = room.get(..crate::table::count(outcome.count));
+        match text.map(std::str::from_utf8) {
+            Some(Ok(text)) if outcome.kind == sys::ACCEPTED => formatter.pad(text),
+            _ => Err(fmt::Error),
+        }
+    }
+}
+
+impl FromStr for Guid {
+    type Err = ParseGuidError;
+
+    fn from_str(text: &str) -> Result<Self, Self::Err> {
+        Self::from_text(text.as_bytes())
+    }
+}
+
+impl From<[u8; 16]> for Guid {
+    fn from(bytes: [u8; 16]) -> Self {
+        Self(bytes)
+    }
+}
+
+/// A text that is not four hexadecimal words with dashes between.
+#[derive(Debug, Clone, Copy, PartialEq, Eq)]
+pub struct ParseGuidError;
+
+impl ParseGuidError {
+    /// The refusal's number, 16.
+    pub const fn code(&self) -> u32 {
+        16
+    }
+}
+
+impl fmt::Display for ParseGuidError {
+    fn fmt(&self, formatter: &mut fmt::Formatter<'_>) -> fmt::Result {
+        formatter.write_str("expected a GUID of the form a-b-c-d, in hexadecimal")
+    }
+}
+
+impl std::error::Error for ParseGuidError {}
+
+#[cfg(test)]
+mod tests {
+    use super::*;
+
+    #[test]
+    fn prints_backwards() {
+        let id = Guid::from_parts([1, 2, 3, 4]);
+        assert_eq!(id.to_string(), "4-3-2-1");
+        assert_eq!(format!("{id:>9}"), "  4-3-2-1");
+        assert_eq!(Guid::NULL.to_string(), "0-0-0-0");
+        assert_eq!(
+            Guid([0xff; 16]).to_string(),
+            "ffffffff-ffffffff-ffffffff-ffffffff"
+        );
+    }
+
+    #[test]
+    fn reads_what_it_prints() {
+        for id in [
+            Guid::from_parts([0x10384, 0x3e9_0384, 0xc4f1_a2b3, 7]),
+            Guid::NULL,
+            Guid([0xff; 16]),
+        ] {
+            assert_eq!(id.to_string().parse(), Ok(id));
+            assert_eq!(Guid::from_parts(id.parts()), id);
+            let (first, second) = id.halves();
+            assert_eq!(Guid::from_halves(first, second), id);
+            assert_eq!(Guid::from(id.to_bytes()), id);
+            assert_eq!(id.is_null(), id == Guid::NULL);
+        }
+    }
+
+    #[test]
+    fn odd_texts() {
+        assert_eq!("+1-2-3-4".parse(), Ok(Guid::from_parts([4, 3, 2, 1])));
+        for text in [
+            "",
+            "0-0-0",
+            "0-0-0-0-0",
+            "g-0-0-0",
+            "123456789-0-0-0",
+            "+-0-0-0",
+            "ä-0-0-0",
+        ] {
+            let error = text.parse::<Guid>();
+            assert_eq!(error, Err(ParseGuidError));
+            assert_eq!(ParseGuidError.code(), 16);
+        }
+        assert_eq!(Guid::from_text(b"\xff-0-0-0"), Err(ParseGuidError));
+    }
+}

@@ -1,0 +1,152 @@
+//! The static library's functions, over slices: all of the crate's `unsafe`.
+//!
+//! What `docs/FACE.md` asks of a caller, and why every call here keeps to it:
+//!
+//! - a slice is lent as its own pointer and length, so it is valid for that many elements, is not
+//!   null where it is empty, is aligned, and is no larger than an object may be;
+//! - it has been written, as all that a `&[T]` or `&mut [T]` of integers names has;
+//! - what is written is a `&mut` slice or the outcome, a local of the function, and overlaps
+//!   nothing else that is lent, nor does another thread touch it, by the rule of `&mut`; what is
+//!   read is a `&` slice, which nobody writes meanwhile;
+//! - nothing is required of numbers or bytes: every input has an answer, and no pointer is kept.
+
+/// The library's answer: what `cablefinch_outcome` of `face.h` is.
+#[repr(C)]
+#[derive(Clone, Copy, Debug, Default)]
+pub(crate) struct Outcome {
+    /// Accepted, need-more or refused.
+    pub(crate) kind: u64,
+    /// The number of a refusal, else 0.
+    pub(crate) number: u64,
+    /// Bytes consumed or written.
+    pub(crate) count: u64,
+    /// The answer's values, 0 where there are fewer.
+    pub(crate) values: [u64; 7],
+}
+
+pub(crate) const ACCEPTED: u64 = 0;
+pub(crate) const MORE: u64 = 1;
+
+#[rustfmt::skip]
+mod raw {
+    use super::Outcome;
+    unsafe extern "C" {
+        pub(super) fn cablefinch_checksum(bytes: *const u8, n: usize) -> u64;
+        pub(super) fn cablefinch_update(register: u64, bytes: *const u8, n: usize) -> u64;
+        pub(super) fn cablefinch_guid_print(o: *mut Outcome, id: *const u8, n: usize, out: *mut u8, room: usize) -> *mut Outcome;
+        pub(super) fn cablefinch_guid_parse(o: *mut Outcome, text: *const u8, n: usize) -> *mut Outcome;
+        pub(super) fn cablefinch_guid_parts(o: *mut Outcome, id: *const u8, n: usize) -> *mut Outcome;
+        pub(super) fn cablefinch_guid_halves(o: *mut Outcome, id: *const u8, n: usize) -> *mut Outcome;
+        pub(super) fn cablefinch_guid_is_null(id: *const u8, n: usize) -> bool;
+        pub(super) fn cablefinch_decode_with(o: *mut Outcome, input: *const u8, n: usize, max_message_size: u64, max_part_count: u32, parts: *mut u64, words: usize) -> *mut Outcome;
+        pub(super) fn cablefinch_encode(o: *mut Outcome, kind: u64, flags: u16, id: *const u8, id_size: usize, area: *const u8, n: usize, parts: *const u64, words: usize, out: *mut u8, room: usize) -> *mut Outcome;
+        pub(super) fn cablefinch_encoded_size(o: *mut Outcome, kind: u64, area: *const u8, n: usize, parts: *const u64, words: usize) -> *mut Outcome;
+        pub(super) fn cablefinch_validate(o: *mut Outcome, area: *const u8, n: usize, parts: *const u64, words: usize) -> *mut Outcome;
+        pub(super) fn cablefinch_contains(flags: u16, other: u16) -> bool;
+        pub(super) fn cablefinch_decode_rowset(o: *mut Outcome, input: *const u8, n: usize, rows: *mut u64, row_words: usize, values: *mut u64, value_words: usize) -> *mut Outcome;
+        pub(super) fn cablefinch_encode_rowset(o: *mut Outcome, area: *const u8, n: usize, rows: *const u64, row_words: usize, values: *const u64, value_words: usize, out: *mut u8, room: usize) -> *mut Outcome;
+        pub(super) fn cablefinch_rowset_size(o: *mut Outcome, area: *const u8, n: usize, rows: *const u64, row_words: usize, values: *const u64, value_words: usize) -> *mut Outcome;
+        pub(super) fn cablefinch_is_plain(input: *const u8, n: usize) -> bool;
+    }
+}
+
+/// Calls a function that answers through a pointer. Its arguments are numbers, and slices named in
+/// brackets, `[bytes]` to read and `[mut bytes]` to write.
+macro_rules! ask {
+    (@ $o:ident $name:ident ($($done:expr),*)) => {
+        // SAFETY: the outcome is a local and aligned by its type; each other pointer is that of a
+        // slice, beside that slice's length, and the slices that are written are `&mut`. So all
+        // that the module's head lists holds, and the signature is that of `face.h`.
+        unsafe { raw::$name(&mut $o, $($done),*) }
+    };
+    (@ $o:ident $name:ident ($($done:expr),*) [mut $slice:ident] $($rest:tt)*) => {
+        ask!(@ $o $name ($($done,)* $slice.as_mut_ptr(), $slice.len()) $($rest)*)
+    };
+    (@ $o:ident $name:ident ($($done:expr),*) [$slice:ident] $($rest:tt)*) => {
+        ask!(@ $o $name ($($done,)* $slice.as_ptr(), $slice.len()) $($rest)*)
+    };
+    (@ $o:ident $name:ident ($($done:expr),*) $number:ident $($rest:tt)*) => {
+        ask!(@ $o $name ($($done,)* $number) $($rest)*)
+    };
+    ($name:ident $($rest:tt)*) => {{
+        let mut outcome = Outcome::default();
+        ask!(@ outcome $name () $($rest)*);
+        outcome
+    }};
+}
+
+pub(crate) fn checksum(bytes: &[u8]) -> u64 {
+    // SAFETY: a slice's pointer and length, only read.
+    unsafe { raw::cablefinch_checksum(bytes.as_ptr(), bytes.len()) }
+}
+
+pub(crate) fn update(register: u64, bytes: &[u8]) -> u64 {
+    // SAFETY: a slice's pointer and length, only read; any register has an answer.
+    unsafe { raw::cablefinch_update(register, bytes.as_ptr(), bytes.len()) }
+}
+
+pub(crate) fn guid_print(id: &[u8], out: &mut [u8]) -> Outcome {
+    ask!(cablefinch_guid_print [id] [mut out])
+}
+
+pub(crate) fn guid_parse(text: &[u8]) -> Outcome {
+    ask!(cablefinch_guid_parse[text])
+}
+
+pub(crate) fn guid_parts(id: &[u8]) -> Outcome {
+    ask!(cablefinch_guid_parts[id])
+}
+
+pub(crate) fn guid_halves(id: &[u8]) -> Outcome {
+    ask!(cablefinch_guid_halves[id])
+}
+
+pub(crate) fn guid_is_null(id: &[u8]) -> bool {
+    // SAFETY: a slice's pointer and length, only read; the result is 0 or 1.
+    unsafe { raw::cablefinch_guid_is_null(id.as_ptr(), id.len()) }
+}
+
+pub(crate) fn decode_with(input: &[u8], limit: u64, ceiling: u32, parts: &mut [u64]) -> Outcome {
+    ask!(cablefinch_decode_with [input] limit ceiling [mut parts])
+}
+
+pub(crate) fn encode(
+    kind: u64,
+    flags: u16,
+    id: &[u8],
+    area: &[u8],
+    parts: &[u64],
+    out: &mut [u8],
+) -> Outcome {
+    ask!(cablefinch_encode kind flags [id] [area] [parts] [mut out])
+}
+
+pub(crate) fn encoded_size(kind: u64, area: &[u8], parts: &[u64]) -> Outcome {
+    ask!(cablefinch_encoded_size kind [area] [parts])
+}
+
+pub(crate) fn validate(area: &[u8], parts: &[u64]) -> Outcome {
+    ask!(cablefinch_validate[area][parts])
+}
+
+pub(crate) fn contains(flags: u16, other: u16) -> bool {
+    // SAFETY: two numbers; the result is 0 or 1.
+    unsafe { raw::cablefinch_contains(flags, other) }
+}
+
+pub(crate) fn decode_rowset(input: &[u8], rows: &mut [u64], values: &mut [u64]) -> Outcome {
+    ask!(cablefinch_decode_rowset [input] [mut rows] [mut values])
+}
+
+pub(crate) fn encode_rowset(area: &[u8], rows: &[u64], values: &[u64], out: &mut [u8]) -> Outcome {
+    ask!(cablefinch_encode_rowset [area] [rows] [values] [mut out])
+}
+
+pub(crate) fn rowset_size(area: &[u8], rows: &[u64], values: &[u64]) -> Outcome {
+    ask!(cablefinch_rowset_size[area][rows][values])
+}
+
+pub(crate) fn is_plain(input: &[u8]) -> bool {
+    // SAFETY: a slice's pointer and length, only read; the result is 0 or 1.
+    unsafe { raw::cablefinch_is_plain(input.as_ptr(), input.len()) }
+}
