@@ -402,6 +402,9 @@ fn packet_tables(lines: &mut Vec<String>) {
             }
         }
     }
+    // A writer's 3: one part too many, by the shortest form of a table.
+    let most = 2u64 << 28;
+    lines.push(format!("packet-write 0 0 {NO_ID} 0 - z{}", most + 2));
     for (size, table) in [
         (1 << 30, vec![0, 1 << 30]),
         ((1 << 30) + 1, vec![1, 1 << 30]),
@@ -653,8 +656,7 @@ fn rowset_tables(lines: &mut Vec<String>) {
 }
 
 /// Cases that cost gigabytes or minutes: the checksum of 2^30 bytes after one that is not zero, a
-/// rowset of just the largest size, lengths above 2^32, and a table of 2^28 + 1 parts, whose line
-/// alone has 2^30 bytes.
+/// rowset of just the largest size, lengths above 2^32, and tables of 2^28 and 2^28 + 1 parts.
 pub fn huge(count: usize, output: &mut impl Write) -> io::Result<()> {
     let (rows, values) = crossing_with(0);
     let (rows, values) = (words(&rows), words(&values));
@@ -669,16 +671,11 @@ pub fn huge(count: usize, output: &mut impl Write) -> io::Result<()> {
         format!("rowset-write 1073741823 z16777216 {rows} {values}"),
         String::from("crc 01 z1073741825"),
         String::from("crc 01 z1073741824 02"),
+        format!("validate 0 0 {NO_ID} - z{}", 2u64 << 28),
+        format!("validate 0 0 {NO_ID} - z{}", (2u64 << 28) + 2),
     ];
     for line in cases.iter().take(count) {
         writeln!(output, "{line}")?;
-    }
-    for extra in 0..2u64.min(count.saturating_sub(cases.len()) as u64) {
-        write!(output, "validate 0 0 {NO_ID} - 0,0")?;
-        for _ in 1..(1u64 << 28) + extra {
-            output.write_all(b",0,0")?;
-        }
-        writeln!(output)?;
     }
     Ok(())
 }

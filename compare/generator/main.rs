@@ -8,6 +8,8 @@ mod packets;
 mod random;
 mod rowsets;
 mod seal;
+#[allow(dead_code)]
+#[path = "../text.rs"]
 mod text;
 
 use std::io::{self, BufWriter, Write};

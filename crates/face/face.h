@@ -23,12 +23,18 @@ typedef struct {
 /* Each function that answers an outcome takes the place for it first and hands that pointer back. A slice is a pointer and how
  * many elements it has. */
 
-/* The checksum. A register begins at 0 and is held byte-swapped: its bytes turned round are the checksum. */
+/* The checksum, of one stretch or of several: a register begins at 0, each stretch updates it, and finish gives the checksum. */
 uint64_t cablefinch_checksum(const uint8_t *bytes, size_t n);
 uint64_t cablefinch_update(uint64_t reg, const uint8_t *bytes, size_t n);
+uint64_t cablefinch_finish(uint64_t reg);
 
 /* GUIDs: an id is its sixteen wire bytes, of which a missing one counts as 0.
- * print: count is the text's bytes. parse and parts: values are the four words. halves: the two halves. */
+ * from_parts and from_halves write an id: count is its sixteen bytes. print: count is the text's bytes. parse and parts: values are
+ * the four words. halves: the two halves. */
+cablefinch_outcome *cablefinch_guid_from_parts(cablefinch_outcome *o, uint32_t w0, uint32_t w1, uint32_t w2, uint32_t w3,
+                                               uint8_t *out, size_t room);
+cablefinch_outcome *cablefinch_guid_from_halves(cablefinch_outcome *o, uint64_t first, uint64_t second, uint8_t *out,
+                                                size_t room);
 cablefinch_outcome *cablefinch_guid_print(cablefinch_outcome *o, const uint8_t *id, size_t n, uint8_t *out, size_t room);
 cablefinch_outcome *cablefinch_guid_parse(cablefinch_outcome *o, const uint8_t *text, size_t n);
 cablefinch_outcome *cablefinch_guid_parts(cablefinch_outcome *o, const uint8_t *id, size_t n);
@@ -57,8 +63,8 @@ bool cablefinch_contains(uint16_t flags, uint16_t other);
 
 /* Rowsets. The row table has one word a row: its value count, or 2^64-1 for a null row. The value table has five words a value:
  * id, type, aggregate, scalar bits or blob offset, blob length.
- * decode_rowset: values are how many rows and values were read. encode_rowset: count is the written bytes. rowset_size: the
- * first value is their number. read_value: values are the entry's five words, count is where the next value begins. */
+ * decode_rowset: values are how many rows and values were read. encode_rowset and rowset_size: count is the written bytes.
+ * read_value: values are the entry's five words, count is where the next value begins. */
 cablefinch_outcome *cablefinch_decode_rowset(cablefinch_outcome *o, const uint8_t *input, size_t n, uint64_t *rows,
                                              size_t row_words, uint64_t *values, size_t value_words);
 cablefinch_outcome *cablefinch_encode_rowset(cablefinch_outcome *o, const uint8_t *area, size_t n, const uint64_t *rows,

@@ -34,8 +34,8 @@ impl Crc64 {
     }
 
     /// The checksum of all that was folded in.
-    pub const fn finish(&self) -> u64 {
-        self.register.swap_bytes()
+    pub fn finish(&self) -> u64 {
+        sys::finish(self.register)
     }
 }
 

@@ -20,8 +20,9 @@ impl Guid {
 
     /// The GUID of four words, in wire order.
     pub fn from_parts(parts: [u32; 4]) -> Self {
-        let [a, b, c, d] = parts.map(u64::from);
-        Self::from_halves(a | b << 32, c | d << 32)
+        let mut id = Self::NULL;
+        sys::guid_from_parts(parts, &mut id.0);
+        id
     }
 
     /// The two halves of eight bytes each.
@@ -32,8 +33,9 @@ impl Guid {
 
     /// The GUID of two halves.
     pub fn from_halves(first: u64, second: u64) -> Self {
-        let both = u128::from(first) | u128::from(second) << 64;
-        Self(both.to_le_bytes())
+        let mut id = Self::NULL;
+        sys::guid_from_halves(first, second, &mut id.0);
+        id
     }
 
     /// The GUID of sixteen wire bytes.

@@ -33,6 +33,9 @@ mod raw {
     unsafe extern "C" {
         pub(super) fn cablefinch_checksum(bytes: *const u8, n: usize) -> u64;
         pub(super) fn cablefinch_update(register: u64, bytes: *const u8, n: usize) -> u64;
+        pub(super) fn cablefinch_finish(register: u64) -> u64;
+        pub(super) fn cablefinch_guid_from_parts(o: *mut Outcome, w0: u32, w1: u32, w2: u32, w3: u32, out: *mut u8, room: usize) -> *mut Outcome;
+        pub(super) fn cablefinch_guid_from_halves(o: *mut Outcome, first: u64, second: u64, out: *mut u8, room: usize) -> *mut Outcome;
         pub(super) fn cablefinch_guid_print(o: *mut Outcome, id: *const u8, n: usize, out: *mut u8, room: usize) -> *mut Outcome;
         pub(super) fn cablefinch_guid_parse(o: *mut Outcome, text: *const u8, n: usize) -> *mut Outcome;
         pub(super) fn cablefinch_guid_parts(o: *mut Outcome, id: *const u8, n: usize) -> *mut Outcome;
@@ -83,6 +86,20 @@ pub(crate) fn checksum(bytes: &[u8]) -> u64 {
 pub(crate) fn update(register: u64, bytes: &[u8]) -> u64 {
     // SAFETY: a slice's pointer and length, only read; any register has an answer.
     unsafe { raw::cablefinch_update(register, bytes.as_ptr(), bytes.len()) }
+}
+
+pub(crate) fn finish(register: u64) -> u64 {
+    // SAFETY: a number; any register has an answer.
+    unsafe { raw::cablefinch_finish(register) }
+}
+
+pub(crate) fn guid_from_parts(parts: [u32; 4], out: &mut [u8]) -> Outcome {
+    let [w0, w1, w2, w3] = parts;
+    ask!(cablefinch_guid_from_parts w0 w1 w2 w3 [mut out])
+}
+
+pub(crate) fn guid_from_halves(first: u64, second: u64, out: &mut [u8]) -> Outcome {
+    ask!(cablefinch_guid_from_halves first second [mut out])
 }
 
 pub(crate) fn guid_print(id: &[u8], out: &mut [u8]) -> Outcome {

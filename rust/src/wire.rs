@@ -21,7 +21,7 @@ pub const MAX_VALUE_LENGTH: u32 = 16 * 1024 * 1024;
 /// The most bytes of a rowset, which is one part.
 pub const MAX_ROWSET_SIZE: usize = MAX_PART_SIZE as usize;
 
-/// How many rows and values a fresh decoder has room for.
+/// How many values a fresh decoder has room for.
 const FIRST_ROOM: usize = 64;
 
 /// The word of a null row in a table.
@@ -190,8 +190,10 @@ impl<'a> Rowset<'a> {
 
     /// The rowset in its plain form, without a copy of its bytes in between.
     pub fn encode(&self) -> Result<Vec<u8>, WireError> {
+        let laid = self.laid();
+        let size = laid.size()?;
         let mut out = Vec::new();
-        self.laid().write(&mut out)?;
+        laid.write(size, &mut out)?;
         Ok(out)
     }
 
@@ -468,15 +470,15 @@ impl Decoder {
 
     /// How many words of each table were filled.
     fn read(&mut self, input: &[u8]) -> Result<(usize, usize), WireError> {
-        if self.rows.is_empty() {
-            // Where there is no memory for them, 17 says so below. No more than one row or value
-            // to eight bytes can be there.
-            let room = FIRST_ROOM.min(input.len() / 8);
-            table::grow(&mut self.rows, room);
-            table::grow(&mut self.values, WIDTH * room);
+        // No more than one row or value to eight bytes can be there, whatever is declared. Where
+        // there is no memory for them, 17 says so below.
+        let most = input.len() / 8;
+        table::grow(&mut self.rows, declared(input).min(most));
+        if self.values.is_empty() {
+            table::grow(&mut self.values, WIDTH * FIRST_ROOM.min(most));
         }
         let mut outcome = sys::decode_rowset(input, &mut self.rows, &mut self.values);
-        // Once for the rows, once for the values.
+        // Once for the values, and once for the rows where no memory for them was found above.
         for _ in 0..2 {
             let [which, needed, ..] = outcome.values;
             let grown = match (outcome.number, which) {
@@ -495,6 +497,13 @@ impl Decoder {
         let [rows, values, ..] = outcome.values;
         Ok((count(rows), count(values).saturating_mul(WIDTH)))
     }
+}
+
+/// How many rows the first word declares: a guess at the room for them, which the library checks.
+fn declared(input: &[u8]) -> usize {
+    input
+        .first_chunk()
+        .map_or(0, |word| count(u64::from_le_bytes(*word)))
 }
 
 /// Reads a rowset as [`Decoder::decode_rowset`] does, with tables of its own: the rowset borrows
@@ -594,14 +603,13 @@ impl Laid<'_> {
     fn size(&self) -> Result<usize, WireError> {
         let outcome = sys::rowset_size(&self.area, &self.rows, &self.values);
         match outcome.kind {
-            sys::ACCEPTED => Ok(count(outcome.values[0])),
+            sys::ACCEPTED => Ok(count(outcome.count)),
             _ => Err(WireError::of(&outcome)),
         }
     }
 
-    /// Appends the rowset's bytes; a refusal leaves `out` as it was.
-    fn write(&self, out: &mut Vec<u8>) -> Result<(), WireError> {
-        let size = self.size()?;
+    /// Appends the rowset's bytes, `size` of them; a refusal leaves `out` as it was.
+    fn write(&self, size: usize, out: &mut Vec<u8>) -> Result<(), WireError> {
         if out.try_reserve(size).is_err() {
             return Err(WireError::no_room(size, 1));
         }
@@ -643,7 +651,7 @@ where
     let mut laid = measure(rows)?;
     let size = laid.size()?;
     lay(rows, &mut laid, size)?;
-    laid.write(out)
+    laid.write(size, out)
 }
 
 #[cfg(test)]

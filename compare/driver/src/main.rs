@@ -3,45 +3,28 @@
 //! is filled with 0xa5 before each call, and a byte changed that should not be is told as `touched`.
 
 mod face;
+#[allow(dead_code)]
+#[path = "../../text.rs"]
+mod text;
 
 use face::Outcome;
 use std::fmt::Write as _;
-use std::io::{self, BufRead, BufReader, BufWriter, Write};
+use std::io;
+use text::{BadCase, answer_lines, hex_or_dash, narrow, number, read_bytes, read_id, read_words, words};
 
 const NULL: u64 = u64::MAX;
 const FILL: u8 = 0xa5;
 const FILL_WORD: u64 = u64::from_ne_bytes([FILL; 8]);
 
-struct BadCase;
-
 type Answer = Result<String, BadCase>;
 
 fn main() -> io::Result<()> {
-    let mut input = BufReader::with_capacity(1 << 18, io::stdin().lock());
-    let mut output = BufWriter::with_capacity(1 << 18, io::stdout().lock());
-    let mut line = Vec::new();
-    loop {
-        if input.buffer().is_empty() {
-            output.flush()?;
-        }
-        line.clear();
-        if input.read_until(b'\n', &mut line)? == 0 {
-            return output.flush();
-        }
-        if line.last() == Some(&b'\n') {
-            line.pop();
-        }
-        match answer(&line) {
-            Ok(text) => output.write_all(text.as_bytes())?,
-            Err(BadCase) => output.write_all(b"bad case")?,
-        }
-        output.write_all(b"\n")?;
-    }
+    answer_lines(|line| answer(line).unwrap_or_else(|BadCase| "bad case".to_string()))
 }
 
 fn answer(line: &[u8]) -> Answer {
-    let words: Vec<&[u8]> = line.split(|&byte| byte == b' ').collect();
-    match (words[0], &words[1..]) {
+    let case: Vec<&[u8]> = line.split(|&byte| byte == b' ').collect();
+    match (case[0], &case[1..]) {
         (b"crc", stretches) if !stretches.is_empty() => crc(stretches),
         (b"checksum", [bytes]) => Ok(format!("ok {:016x}", face::checksum(&read_bytes(bytes)?))),
         (b"guid-print", [id]) => guid_print(&read_id(id)?),
@@ -88,7 +71,7 @@ fn answer(line: &[u8]) -> Answer {
         (b"rowset-size", [area, rows, values]) => {
             let outcome =
                 face::rowset_size(&read_bytes(area)?, &read_words(rows)?, &read_words(values)?);
-            Ok(or_refusal(&outcome, || format!("ok {}", outcome.values[0])))
+            Ok(or_refusal(&outcome, || format!("ok {}", outcome.count)))
         }
         (b"value", [at, bytes]) => value(number(at)?, &read_bytes(bytes)?),
         (b"plain", [bytes]) => {
@@ -100,65 +83,7 @@ fn answer(line: &[u8]) -> Answer {
 
 // The words of a case.
 
-fn number(word: &[u8]) -> Result<u64, BadCase> {
-    if word.is_empty() || word.len() > 20 {
-        return Err(BadCase);
-    }
-    let mut sum = 0u64;
-    for &byte in word {
-        if !byte.is_ascii_digit() {
-            return Err(BadCase);
-        }
-        let digit = u64::from(byte - b'0');
-        sum = sum.checked_mul(10).and_then(|sum| sum.checked_add(digit)).ok_or(BadCase)?;
-    }
-    Ok(sum)
-}
-
-fn narrow(number: u64, most: u64) -> Result<u64, BadCase> {
-    if number > most { Err(BadCase) } else { Ok(number) }
-}
-
-fn read_bytes(word: &[u8]) -> Result<Vec<u8>, BadCase> {
-    if word == b"-" {
-        return Ok(Vec::new());
-    }
-    if let [b'z', count @ ..] = word {
-        return Ok(vec![0; number(count)? as usize]);
-    }
-    if word.is_empty() || word.len() % 2 != 0 {
-        return Err(BadCase);
-    }
-    word.chunks_exact(2).map(|pair| Ok(digit(pair[0])? << 4 | digit(pair[1])?)).collect()
-}
-
-fn digit(byte: u8) -> Result<u8, BadCase> {
-    match byte {
-        b'0'..=b'9' => Ok(byte - b'0'),
-        b'a'..=b'f' => Ok(byte - b'a' + 10),
-        _ => Err(BadCase),
-    }
-}
-
-fn read_words(word: &[u8]) -> Result<Vec<u64>, BadCase> {
-    if word == b"-" {
-        return Ok(Vec::new());
-    }
-    let mut words = Vec::with_capacity(1 + word.iter().filter(|&&byte| byte == b',').count());
-    for text in word.split(|&byte| byte == b',') {
-        words.push(number(text)?);
-    }
-    Ok(words)
-}
-
-fn read_id(word: &[u8]) -> Result<Vec<u8>, BadCase> {
-    if word.len() != 32 {
-        return Err(BadCase);
-    }
-    read_bytes(word)
-}
-
-fn header(kind: &[u8], flags: &[u8], id: &[u8]) -> Result<(u64, u16, Vec<u8>), BadCase> {
+fn header(kind: &[u8], flags: &[u8], id: &[u8]) -> Result<(u64, u16, [u8; 16]), BadCase> {
     Ok((narrow(number(kind)?, 2)?, narrow(number(flags)?, 0xffff)? as u16, read_id(id)?))
 }
 
@@ -168,32 +93,6 @@ fn table(words: u64, most: usize) -> Vec<u64> {
 }
 
 // The words of an answer.
-
-fn push_hex(text: &mut String, bytes: &[u8]) {
-    const DIGITS: &[u8; 16] = b"0123456789abcdef";
-    if bytes.is_empty() {
-        text.push('-');
-        return;
-    }
-    text.reserve(2 * bytes.len());
-    for byte in bytes {
-        text.push(DIGITS[usize::from(byte >> 4)] as char);
-        text.push(DIGITS[usize::from(byte & 15)] as char);
-    }
-}
-
-fn push_list(text: &mut String, words: &[u64]) {
-    if words.is_empty() {
-        text.push('-');
-        return;
-    }
-    for (index, word) in words.iter().enumerate() {
-        if index > 0 {
-            text.push(',');
-        }
-        let _ = write!(text, "{word}");
-    }
-}
 
 /// How many values document 01's number carries.
 fn carried(number: u64) -> usize {
@@ -243,13 +142,12 @@ fn bytes_kept(bytes: &[u8]) -> bool {
 
 // The checksum and GUIDs.
 
-/// The register is held byte-swapped: its bytes turned round are the checksum.
 fn crc(stretches: &[&[u8]]) -> Answer {
     let mut register = 0;
     for stretch in stretches {
         register = face::update(register, &read_bytes(stretch)?);
     }
-    Ok(format!("ok {:016x}", register.swap_bytes()))
+    Ok(format!("ok {:016x}", face::finish(register)))
 }
 
 fn guid_print(id: &[u8]) -> Answer {
@@ -267,17 +165,29 @@ fn wire(words: &[u64]) -> Vec<u8> {
 fn guid_read(text: &[u8]) -> Answer {
     let outcome = face::guid_parse(text);
     Ok(or_refusal(&outcome, || {
-        let mut text = "ok ".to_string();
-        push_hex(&mut text, &wire(&outcome.values[..4]));
-        text
+        format!("ok {}", hex_or_dash(&wire(&outcome.values[..4])))
     }))
+}
+
+/// The id that a function writes, and what it leaves of a byte behind it.
+fn made(write: impl FnOnce(&mut [u8]) -> Outcome) -> Vec<u8> {
+    let mut out = [FILL; 17];
+    let outcome = write(&mut out);
+    assert!(outcome.kind == face::ACCEPTED && outcome.count == 16);
+    out[..16 + usize::from(out[16] != FILL)].to_vec()
 }
 
 fn guid_parts(id: &[u8]) -> Answer {
     let [a, b, c, d, ..] = face::guid_parts(id).values;
     let [first, second, ..] = face::guid_halves(id).values;
     let null = u8::from(face::guid_is_null(id));
-    Ok(format!("ok {a} {b} {c} {d} {first} {second} {null}"))
+    let mut text = format!("ok {a} {b} {c} {d} {first} {second} {null}");
+    if made(|out| face::guid_from_parts([a, b, c, d].map(|word| word as u32), out)) != id
+        || made(|out| face::guid_from_halves(first, second, out)) != id
+    {
+        text.push_str(" and another id is made of them");
+    }
+    Ok(text)
 }
 
 // Packets.
@@ -297,9 +207,8 @@ fn packet(limit: u64, ceiling: Option<u32>, room: u64, input: &[u8]) -> Answer {
         return Ok(mark(refusal(&outcome, true), words_kept(&parts)));
     }
     let [kind, flags, .., count] = outcome.values;
-    let mut text = format!("ok {} {kind} {flags} ", outcome.count);
-    push_hex(&mut text, &wire(&outcome.values[2..6]));
-    let _ = write!(text, " {count}");
+    let id = hex_or_dash(&wire(&outcome.values[2..6]));
+    let mut text = format!("ok {} {kind} {flags} {id} {count}", outcome.count);
     let (entries, rest) = parts.split_at(2 * count as usize);
     for entry in entries.chunks_exact(2) {
         match entry {
@@ -322,9 +231,7 @@ fn written(outcome: &Outcome, out: &[u8]) -> String {
         return mark(or_refusal(outcome, String::new), bytes_kept(out));
     }
     let (bytes, rest) = out.split_at(outcome.count as usize);
-    let mut text = format!("ok {} ", outcome.count);
-    push_hex(&mut text, bytes);
-    mark(text, bytes_kept(rest))
+    mark(format!("ok {} {}", outcome.count, hex_or_dash(bytes)), bytes_kept(rest))
 }
 
 fn packet_write(kind: u64, flags: u16, id: &[u8], room: u64, area: &[u8], parts: &[u64]) -> Answer {
@@ -337,10 +244,8 @@ fn packet_write(kind: u64, flags: u16, id: &[u8], room: u64, area: &[u8], parts:
 fn part(index: u64, input: &[u8], parts: &[u64]) -> Answer {
     let index = index as usize;
     let [offset, length, ..] = face::part(input, parts, index).values;
-    let mut text = "ok ".to_string();
-    push_hex(&mut text, &input[offset as usize..][..length as usize]);
-    let _ = write!(text, " {:016x}", face::part_checksum(input, parts, index));
-    Ok(text)
+    let bytes = hex_or_dash(&input[offset as usize..][..length as usize]);
+    Ok(format!("ok {bytes} {:016x}", face::part_checksum(input, parts, index)))
 }
 
 // Rowsets.
@@ -358,10 +263,7 @@ fn rowset(rows: u64, values: u64, input: &[u8]) -> Answer {
     let [row_count, value_count, ..] = outcome.values;
     let (rows, rows_rest) = rows.split_at(row_count as usize);
     let (values, values_rest) = values.split_at(5 * value_count as usize);
-    let mut text = format!("ok {row_count} {value_count} ");
-    push_list(&mut text, rows);
-    text.push(' ');
-    push_list(&mut text, values);
+    let text = format!("ok {row_count} {value_count} {} {}", words(rows), words(values));
     Ok(mark(text, words_kept(rows_rest) && words_kept(values_rest)))
 }
 

@@ -3,7 +3,11 @@
 //! answer is worked out here. Where the Rust has none (short room, a table that breaks a rule, the
 //! plain-form check, text that is no UTF-8, a start past the end), the answer is `skip`.
 
-use std::io::{self, BufRead, BufReader, BufWriter, Write};
+// Copied here by the build, from compare/text.rs.
+#[allow(dead_code)]
+mod text;
+
+use std::io;
 use std::panic::{AssertUnwindSafe, catch_unwind};
 
 use bytes::{Bytes, BytesMut};
@@ -11,6 +15,9 @@ use oracle::bus::packet::{self, Packet, PacketError, PacketFlags, PacketType};
 use oracle::crc64::{self, Crc64};
 use oracle::guid::Guid;
 use oracle::wire::{self, MaybeRow, UnversionedValue, Value, ValueType, WireError};
+use text::{
+    BadCase, answer_lines, commas, hex_or_dash, narrow, number, read_bytes, read_id, read_words, words, zeros,
+};
 
 const NULL: u64 = u64::MAX;
 
@@ -23,38 +30,24 @@ enum Without {
 type Outcome = Result<String, Without>;
 
 fn main() -> io::Result<()> {
-    let mut input = BufReader::with_capacity(1 << 18, io::stdin().lock());
-    let mut output = BufWriter::with_capacity(1 << 18, io::stdout().lock());
-    let mut line = Vec::new();
-    loop {
-        if input.buffer().is_empty() {
-            output.flush()?;
+    answer_lines(|line| {
+        match catch_unwind(AssertUnwindSafe(|| answer(line))) {
+            Ok(Ok(text)) => text,
+            Ok(Err(Without::BadCase)) => "bad case".to_string(),
+            Ok(Err(Without::Skip)) => "skip".to_string(),
+            Err(_) => "panicked".to_string(),
         }
-        line.clear();
-        if input.read_until(b'\n', &mut line)? == 0 {
-            return output.flush();
-        }
-        if line.last() == Some(&b'\n') {
-            line.pop();
-        }
-        match catch_unwind(AssertUnwindSafe(|| answer(&line))) {
-            Ok(Ok(text)) => output.write_all(text.as_bytes())?,
-            Ok(Err(Without::BadCase)) => output.write_all(b"bad case")?,
-            Ok(Err(Without::Skip)) => output.write_all(b"skip")?,
-            Err(_) => output.write_all(b"panicked")?,
-        }
-        output.write_all(b"\n")?;
-    }
+    })
 }
 
 fn answer(line: &[u8]) -> Outcome {
-    let words: Vec<&[u8]> = line.split(|&byte| byte == b' ').collect();
-    match (words[0], &words[1..]) {
+    let case: Vec<&[u8]> = line.split(|&byte| byte == b' ').collect();
+    match (case[0], &case[1..]) {
         (b"crc", stretches) if !stretches.is_empty() => crc(stretches),
         (b"checksum", [bytes]) => Ok(format!("ok {:016x}", crc64::checksum(&read_bytes(bytes)?))),
-        (b"guid-print", [id]) => Ok(format!("ok {}", read_id(id)?)),
+        (b"guid-print", [id]) => Ok(format!("ok {}", guid(id)?)),
         (b"guid-read", [text]) => guid_read(&read_bytes(text)?),
-        (b"guid-parts", [id]) => guid_parts(read_id(id)?),
+        (b"guid-parts", [id]) => guid_parts(guid(id)?),
         (b"packet", [limit, ceiling, room, bytes]) => {
             let ceiling = narrow(number(ceiling)?, u64::from(u32::MAX))? as u32;
             packet_read(number(limit)?, Some(ceiling), number(room)?, bytes)
@@ -103,83 +96,16 @@ fn answer(line: &[u8]) -> Outcome {
     }
 }
 
-// The words of a case.
+// The words of a case and of an answer.
 
-fn number(word: &[u8]) -> Result<u64, Without> {
-    if word.is_empty() || word.len() > 20 || !word.iter().all(u8::is_ascii_digit) {
-        return Err(Without::BadCase);
-    }
-    let text = std::str::from_utf8(word).map_err(|_| Without::BadCase)?;
-    text.parse().map_err(|_| Without::BadCase)
-}
-
-fn narrow(number: u64, most: u64) -> Result<u64, Without> {
-    if number > most {
-        Err(Without::BadCase)
-    } else {
-        Ok(number)
+impl From<BadCase> for Without {
+    fn from(BadCase: BadCase) -> Self {
+        Without::BadCase
     }
 }
 
-fn read_bytes(word: &[u8]) -> Result<Vec<u8>, Without> {
-    if word == b"-" {
-        return Ok(Vec::new());
-    }
-    if let [b'z', count @ ..] = word {
-        return Ok(vec![0; number(count)? as usize]);
-    }
-    if word.is_empty() || word.len() % 2 != 0 {
-        return Err(Without::BadCase);
-    }
-    word.chunks_exact(2)
-        .map(|pair| Ok(digit(pair[0])? << 4 | digit(pair[1])?))
-        .collect()
-}
-
-fn digit(byte: u8) -> Result<u8, Without> {
-    match byte {
-        b'0'..=b'9' => Ok(byte - b'0'),
-        b'a'..=b'f' => Ok(byte - b'a' + 10),
-        _ => Err(Without::BadCase),
-    }
-}
-
-fn read_words(word: &[u8]) -> Result<Vec<u64>, Without> {
-    if word == b"-" {
-        return Ok(Vec::new());
-    }
-    word.split(|&byte| byte == b',').map(number).collect()
-}
-
-fn read_id(word: &[u8]) -> Result<Guid, Without> {
-    if word.len() != 32 {
-        return Err(Without::BadCase);
-    }
-    let bytes = read_bytes(word)?;
-    Ok(Guid(bytes.try_into().map_err(|_| Without::BadCase)?))
-}
-
-// The words of an answer.
-
-fn hex(bytes: &[u8]) -> String {
-    const DIGITS: &[u8; 16] = b"0123456789abcdef";
-    if bytes.is_empty() {
-        return "-".to_string();
-    }
-    let mut text = String::with_capacity(2 * bytes.len());
-    for byte in bytes {
-        text.push(DIGITS[usize::from(byte >> 4)] as char);
-        text.push(DIGITS[usize::from(byte & 15)] as char);
-    }
-    text
-}
-
-fn list(words: &[u64]) -> String {
-    if words.is_empty() {
-        return "-".to_string();
-    }
-    let texts: Vec<String> = words.iter().map(u64::to_string).collect();
-    texts.join(",")
+fn guid(word: &[u8]) -> Result<Guid, BadCase> {
+    Ok(Guid(read_id(word)?))
 }
 
 fn refused(number: u8, consumed: Option<usize>, values: &[u64]) -> String {
@@ -204,7 +130,7 @@ fn crc(stretches: &[&[u8]]) -> Outcome {
 fn guid_read(text: &[u8]) -> Outcome {
     let text = std::str::from_utf8(text).map_err(|_| Without::Skip)?;
     Ok(match text.parse::<Guid>() {
-        Ok(guid) => format!("ok {}", hex(&guid.0)),
+        Ok(guid) => format!("ok {}", hex_or_dash(&guid.0)),
         Err(_) => refused(16, None, &[]),
     })
 }
@@ -267,7 +193,7 @@ fn packet_read(limit: u64, ceiling: Option<u32>, room: u64, bytes: &[u8]) -> Out
         "ok {consumed} {} {} {} {count}",
         packet.packet_type as u16,
         packet.flags.0,
-        hex(&packet.id.0)
+        hex_or_dash(&packet.id.0)
     );
     // An empty part has no address: it stands where the one before it ends.
     let mut place = 44 + 12 * count;
@@ -301,7 +227,7 @@ fn packet_of(
         _ => return Err(Without::BadCase),
     };
     let flags = PacketFlags(narrow(number(flags)?, 0xffff)? as u16);
-    let id = read_id(id)?;
+    let id = guid(id)?;
     let area = Bytes::from(read_bytes(area)?);
     let parts = parts_of(&area, parts)?;
     Ok(Packet {
@@ -317,8 +243,14 @@ fn parts_of(area: &Bytes, text: &[u8]) -> Result<Vec<Option<Bytes>>, Without> {
     if text == b"-" {
         return Ok(Vec::new());
     }
+    if let Some(count) = zeros(text)? {
+        return match count % 2 {
+            0 => Ok(vec![Some(stretch(area, 0, 0)?); count / 2]),
+            _ => Err(Without::Skip),
+        };
+    }
     let mut words = text.split(|&byte| byte == b',').map(number);
-    let mut parts = Vec::with_capacity((1 + text.iter().filter(|&&byte| byte == b',').count()) / 2);
+    let mut parts = Vec::with_capacity((1 + commas(text)) / 2);
     let mut kept = true;
     while let Some(offset) = words.next() {
         let offset = offset?;
@@ -361,7 +293,7 @@ fn packet_write(packet: &Packet, room: u64) -> Outcome {
     Ok(match packet::encode(packet, &mut output) {
         Ok(()) => {
             assert!(output.len() == size);
-            format!("ok {size} {}", hex(&output))
+            format!("ok {size} {}", hex_or_dash(&output))
         }
         Err(error) => packet_refusal(error, None),
     })
@@ -378,7 +310,7 @@ fn part(index: u64, bytes: &[u8], parts: &[u8]) -> Outcome {
     };
     let part = part_of(&input, entry[0], entry[1])?;
     let sum = packet::part_checksum(part.as_ref());
-    Ok(format!("ok {} {sum:016x}", hex(&part.unwrap_or_default())))
+    Ok(format!("ok {} {sum:016x}", hex_or_dash(&part.unwrap_or_default())))
 }
 
 // Rowsets.
@@ -442,8 +374,8 @@ fn rowset_read(row_room: u64, value_room: u64, bytes: Vec<u8>) -> Outcome {
     }
     Ok(format!(
         "ok {row_count} {value_count} {} {}",
-        list(&row_words),
-        list(&value_words)
+        words(&row_words),
+        words(&value_words)
     ))
 }
 
@@ -506,7 +438,7 @@ fn value_of(area: &Bytes, entry: &[u64]) -> Result<UnversionedValue, Without> {
 fn rowset_write(rows: &[MaybeRow], room: u64) -> Outcome {
     match wire::encode_rowset(rows) {
         Ok(bytes) if bytes.len() as u64 > room => Err(Without::Skip),
-        Ok(bytes) => Ok(format!("ok {} {}", bytes.len(), hex(&bytes))),
+        Ok(bytes) => Ok(format!("ok {} {}", bytes.len(), hex_or_dash(&bytes))),
         Err(error) => Ok(wire_refusal(error)),
     }
 }

@@ -13,6 +13,10 @@ TableIs r = r ≡ entries 8
 abbrev pub FoldOverIs : List ℕ → ℕ → List ℕ → ℕ → Type 0
 FoldOverIs table register bytes r = r ≡ foldOver table register bytes
 
+-- the bytes of a number turned round
+abbrev pub SwapIs : ℕ → ℕ → Type 0
+SwapIs x r = r ≡ swapped 8 x
+
 abbrev pub ChecksumOverIs : List ℕ → List ℕ → ℕ → Type 0
 ChecksumOverIs table bytes r = r ≡ swapped 8 (foldOver table 0 bytes)
 

@@ -1,6 +1,6 @@
 // The checksum of the bus: a CRC-64 of its own, worked a byte at a time over a table. The register is held byte-swapped, so
 // that the loop takes the lowest byte, and `finish` swaps it back. What a checksum is stands in specs/Polynomial.antt.
-ghost use Rattle.crc64.specs.Statement.{TableIs, FoldOverIs, ChecksumOverIs, ChecksumIs, NewIs, UpdateIs, ChainIs, FinishIs};
+ghost use Rattle.crc64.specs.Statement.{TableIs, SwapIs, FoldOverIs, ChecksumOverIs, ChecksumIs, NewIs, UpdateIs, ChainIs, FinishIs};
 ghost use Rattle.crc64.specs.Polynomial.{fold};
 ghost use Rattle.crc64.specs.Table.{swapped};
 ghost use mathlib.Core.Path.{_≡_};
@@ -287,8 +287,9 @@ pub fn fold_over(table: &Entries, register: u64, bytes: &[u8]) -> u64
     folded
 }
 
-fn swap_bytes(x: u64) -> u64
-    ensures { λ r. ⌜ r ≡ swapped 8 x ⌝ }
+// The eight bytes turned round, as the Rust's `u64::swap_bytes`: a checksum out of a register, and back.
+pub fn swap_bytes(x: u64) -> u64
+    ensures { λ r. ⌜ SwapIs x r ⌝ }
 {
     let x1 = x >> 8;
     let x2 = x1 >> 8;

@@ -1,4 +1,5 @@
--- What the proofs of the face share: an outcome by cases, that of an answer that is known, the test of a type, where a part lies.
+-- What the proofs of the face share: an outcome by cases, that of an answer that is known, an id written, the test of a type,
+-- where a part lies.
 -- Assumes nothing.
 use Prim.Native.Nat.{ℕ, _≤_, _<_}
 use mathlib.Core.Path.{_≡_, sym, _∙_, ap}
@@ -7,13 +8,18 @@ use mathlib.Core.List.{List, [], _∷_}
 use lib.Dec.{eqb}
 use lib.ListN.{length}
 use borrow.Author.Tests.{lt-ltb, le-ltb}
-use Rattle.words.specs.Answer.{Answer, refuse}
+use Rattle.words.specs.Answer.{Answer, accepted, refuse}
 use Rattle.words.specs.Decide.{pick, _=?_}
+use Rattle.words.specs.Buffer.{fitted}
+use Rattle.words.proofs.BufferLaws.{fitted-short}
+use Rattle.guid.specs.declared.Guid.{Guid}
+use Rattle.guid.specs.Guid.{wireBytes}
+use Rattle.guid.proofs.WireLaws.{length-wire}
 use Rattle.packet.specs.Reading.{room}
 use Rattle.packet_table.specs.Entries.{offsetAt, nullAt, outsideAt, stretchAt, lentAt}
 use Rattle.face.specs.declared.outcome.Outcome.{Outcome}
 use Rattle.face.specs.Outcome.{outcome, outcomeOf}
-use Rattle.face.specs.Statement.{typed, LendsPart}
+use Rattle.face.specs.Statement.{WritesId, typed, LendsPart}
 
 -- what holds of a case holds of the enum that is that case
 pub case : {E : Type 0} (paper : E → Answer) {e e′ : E} {r : Outcome} → e ≡ e′ → r ≡ outcome (paper e′) → r ≡ outcome (paper e)
@@ -22,6 +28,18 @@ case paper {e} {e′} known p = p ∙ sym (ap (λ (x : _). outcome (paper x)) kn
 -- equal answers have one outcome
 pub told : {a b : Answer} {r : Outcome} → a ≡ b → r ≡ outcome a → r ≡ outcome b
 told known p = p ∙ ap outcome known
+
+-- An id written
+
+module _ (g : Guid) (before : List ℕ) where
+  abbrev writes : Bool → Outcome
+  writes short = outcome (pick short (refuse 17 (4 ∷ 16 ∷ length before ∷ [])) (accepted 16 []))
+
+  pub id-short : {r : Outcome} → length before < 16 → r ≡ outcomeOf 2 17 0 (4 ∷ 16 ∷ length before ∷ []) → WritesId g before r before
+  id-short short p = (p ∙ sym (ap writes (lt-ltb (length before) 16 short)), sym (fitted-short (wireBytes g) before (rw (length-wire g) short)))
+
+  pub id-fits : {r : Outcome} {after : List ℕ} → 16 ≤ length before → r ≡ outcomeOf 0 0 16 [] → after ≡ fitted (wireBytes g) before → WritesId g before r after
+  id-fits room p written = (p ∙ sym (ap writes (le-ltb (length before) 16 room)), written)
 
 -- The test of a packet's type
 

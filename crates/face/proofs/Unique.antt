@@ -6,11 +6,12 @@ use mathlib.Core.Bool.{Bool}
 use mathlib.Core.List.{List}
 use Rattle.words.specs.Statement.{OneResult}
 use Rattle.words.proofs.Unique.{equal-to-one}
-use Rattle.crc64.specs.Statement.{ChecksumIs}
+use Rattle.crc64.specs.Statement.{ChecksumIs, SwapIs}
 use Rattle.packet_table.specs.Statement.{PartChecksumIs}
 use Rattle.wire.specs.Statement.{TellsPlain}
+use Rattle.guid.specs.Guid.{guidOf, guidOfHalves}
 use Rattle.face.specs.declared.outcome.Outcome.{Outcome}
-use Rattle.face.specs.Statement.{Updates, Prints, Parses, GivesParts, GivesHalves, TellsNull, Decodes, Encodes, Measures, Validates, LendsPart, Contains, DecodesRowset, EncodesRowset, MeasuresRowset, ReadsValue}
+use Rattle.face.specs.Statement.{Updates, WritesId, Prints, Parses, GivesParts, GivesHalves, TellsNull, Decodes, Encodes, Measures, Validates, LendsPart, Contains, DecodesRowset, EncodesRowset, MeasuresRowset, ReadsValue}
 
 -- so of two things, and of three
 equal-to-two : {A B : Type 0} (a : A) (b : B) → OneResult (λ (x : A × B). (x .0 ≡ a) × (x .1 ≡ b))
@@ -24,6 +25,15 @@ cablefinch-checksum-unique bytes = equal-to-one _
 
 pub cablefinch-update-unique : (register : ℕ) (bytes : List ℕ) → OneResult (Updates register bytes)
 cablefinch-update-unique register bytes = equal-to-one _
+
+pub cablefinch-finish-unique : (register : ℕ) → OneResult (SwapIs register)
+cablefinch-finish-unique register = equal-to-one _
+
+pub cablefinch-guid-from-parts-unique : (w0 w1 w2 w3 : ℕ) (before : List ℕ) → OneResult (λ (x : Outcome × List ℕ). WritesId (guidOf w0 w1 w2 w3) before (x .0) (x .1))
+cablefinch-guid-from-parts-unique w0 w1 w2 w3 before = equal-to-two _ _
+
+pub cablefinch-guid-from-halves-unique : (first second : ℕ) (before : List ℕ) → OneResult (λ (x : Outcome × List ℕ). WritesId (guidOfHalves first second) before (x .0) (x .1))
+cablefinch-guid-from-halves-unique first second before = equal-to-two _ _
 
 pub cablefinch-guid-print-unique : (id before : List ℕ) → OneResult (λ (x : Outcome × List ℕ). Prints id before (x .0) (x .1))
 cablefinch-guid-print-unique id before = equal-to-two _ _

@@ -11,7 +11,8 @@ use Rattle.words.specs.Buffer.{fitted}
 use Rattle.words.specs.Decide.{pick, decide, _⇒_, _<?_, _=?_}
 use Rattle.crc64.specs.Polynomial.{fold}
 use Rattle.crc64.specs.Table.{swapped}
-use Rattle.guid.specs.Guid.{guidAt, wordsOf, firstHalf, secondHalf, isNull}
+use Rattle.guid.specs.declared.Guid.{Guid}
+use Rattle.guid.specs.Guid.{wireBytes, guidAt, wordsOf, firstHalf, secondHalf, isNull}
 use Rattle.guid.specs.Text.{textOf, printing, reading as readingText}
 use Rattle.packet.specs.Reading.{reading, room, tableAfter}
 use Rattle.packet_table.specs.Checks.{validating, sizing}
@@ -32,6 +33,12 @@ abbrev pub Updates : ℕ → List ℕ → ℕ → Type 0
 Updates register bytes r = r ≡ swapped 8 (fold (swapped 8 register) bytes)
 
 -- GUIDs, lent as wire bytes
+
+abbrev pub writingId : ℕ → Answer
+writingId given = decide (given <? 16 ⇒ refuse 17 (4 ∷ 16 ∷ given ∷ []) ∷ []) (accepted 16 [])
+
+abbrev pub WritesId : Guid → List ℕ → Outcome → List ℕ → Type 0
+WritesId g before r after = (r ≡ outcome (writingId (length before))) × (after ≡ fitted (wireBytes g) before)
 
 abbrev pub Prints : List ℕ → List ℕ → Outcome → List ℕ → Type 0
 Prints id before r after = (r ≡ outcome (printing (guidAt id 0) (length before))) × (after ≡ fitted (textOf (guidAt id 0)) before)

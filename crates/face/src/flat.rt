@@ -208,7 +208,7 @@ pub(crate) fn rowset_measured(answer: wire_table::size::Measured) -> Outcome
     ensures { λ r. ⌜ r ≡ outcome (Measure.paperMeasured answer) ⌝ }
 {
     match answer {
-        wire_table::size::Measured::Size(size) => words(0, 0, 0, size as u64, 0, 0),
+        wire_table::size::Measured::Size(size) => words(0, 0, size as u64, 0, 0, 0),
         wire_table::size::Measured::Refused(error) => wire_error(error),
     }
 }

@@ -1,8 +1,43 @@
 // GUIDs: an id is lent as its sixteen wire bytes, of which a missing one counts as 0.
-ghost use Rattle.face.specs.Statement.{Prints, Parses, GivesParts, GivesHalves, TellsNull};
+ghost use Rattle.guid.specs.Guid.{guidOf, guidOfHalves};
+ghost use Rattle.face.specs.Statement.{WritesId, Prints, Parses, GivesParts, GivesHalves, TellsNull};
 use super::flat;
 use super::outcome::Outcome;
 use guid::Guid;
+
+// The bytes of an id.
+const ID_SIZE: usize = 16;
+
+// The sixteen bytes over the front of `out`, or 17.
+fn write_id(id: Guid, out: &mut [u8]) -> Outcome
+    ensures { λ r. ⌜ WritesId id (now (out .entry)) r (now (out .exit)) ⌝ }
+{
+    if out.len() < ID_SIZE {
+        return flat::words(2, 17, 0, 4, 16, out.len() as u64);
+    }
+    id.write(out);
+    flat::words(0, 0, 16, 0, 0, 0)
+}
+
+#[no_mangle]
+pub extern "C" fn cablefinch_guid_from_parts(
+    w0: u32,
+    w1: u32,
+    w2: u32,
+    w3: u32,
+    out: &mut [u8],
+) -> Outcome
+    ensures { λ r. ⌜ WritesId (guidOf w0 w1 w2 w3) (now (out .entry)) r (now (out .exit)) ⌝ }
+{
+    write_id(Guid::from_parts(w0, w1, w2, w3), out)
+}
+
+#[no_mangle]
+pub extern "C" fn cablefinch_guid_from_halves(first: u64, second: u64, out: &mut [u8]) -> Outcome
+    ensures { λ r. ⌜ WritesId (guidOfHalves first second) (now (out .entry)) r (now (out .exit)) ⌝ }
+{
+    write_id(Guid::from_halves(first, second), out)
+}
 
 #[no_mangle]
 pub extern "C" fn cablefinch_guid_print(id: &[u8], out: &mut [u8]) -> Outcome

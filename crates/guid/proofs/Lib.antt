@@ -1,6 +1,5 @@
 -- The laws of GUIDs and their text, which the proofs of this crate and of those above cite.
 pub mod Cases
-pub mod LentLaws
 pub mod WireLaws
 pub mod DigitLaws
 pub mod FieldLaws

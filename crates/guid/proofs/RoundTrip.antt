@@ -8,12 +8,14 @@ use native.Mathlib.Omega.{arith}
 use lib.ListN.{length, getD, drop, length-drop}
 use lib.Seq.{getD-drop, drop-drop}
 use Rattle.words.specs.Answer.{accepted}
+use Rattle.words.specs.Word.{Bytes}
 use Rattle.guid.specs.declared.Guid.{Guid}
 use Rattle.guid.specs.declared.Parsed.the-variants.{Read}
-use Rattle.guid.specs.Guid.{Fitting}
+use Rattle.guid.specs.Guid.{Fitting, guidAt}
 use Rattle.guid.specs.Text.{hex, textOf, digitOf, word, ends, digits, some, field, walk, reading}
 use Rattle.guid.specs.Statement.{parsedPaper}
 use Rattle.guid.proofs.Unique.{parsed-told}
+use Rattle.guid.proofs.WireLaws.{read-fits}
 use Rattle.guid.proofs.FieldLaws.{ends-past, ends-dash, digits-end, digits-more, some-more, field-plain, walk-on, walk-end}
 use Rattle.guid.proofs.DigitLaws.{length-spelled-most, length-spelled-least, text-nested}
 use Rattle.guid.proofs.ValueLaws.{Digits, value, digit-byte, no-plus, digits-spelled, value-spelled}
@@ -105,6 +107,10 @@ parse-printed g fits =
     let three = walk-word s (0 + length (hex (g .w3)) + 1 + length (hex (g .w2)) + 1) (g .w1) (fits .fits1) (hex (g .w0)) 0 (g .w2 ∷ g .w3 ∷ []) (two .1) in
     one .0 ∙ two .0 ∙ three .0
     ∙ walk-last s (0 + length (hex (g .w3)) + 1 + length (hex (g .w2)) + 1 + length (hex (g .w1)) + 1) (g .w0) (fits .fits0) (g .w1 ∷ g .w2 ∷ g .w3 ∷ []) (three .1)
+
+-- So it is with every id that was read out of bytes, that of a packet among them.
+pub read-print-parse : (s : List ℕ) (at : ℕ) → Bytes s → reading (textOf (guidAt s at)) ≡ parsedPaper (Read (guidAt s at))
+read-print-parse s at bytes = parse-printed (guidAt s at) (read-fits s at bytes)
 
 -- So the text tells the GUID.
 pub print-injective : (g h : Guid) → Fitting g → Fitting h → textOf g ≡ textOf h → g ≡ h

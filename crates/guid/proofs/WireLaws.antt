@@ -8,8 +8,8 @@ use lib.Dec.{eqb}
 use lib.ListN.{length, length-append}
 use borrow.Author.Tests.{eq-eqb}
 use Rattle.guid.proofs.Cases.{asked-twice}
-use Rattle.words.specs.Word.{word, bytesOf}
-use Rattle.words.proofs.WordLaws.{word-split, word-bytesOf, word-behind, length-bytesOf, bytesOf-split}
+use Rattle.words.specs.Word.{word, bytesOf, Bytes}
+use Rattle.words.proofs.WordLaws.{word-lt, word-split, word-bytesOf, word-behind, length-bytesOf, bytesOf-split}
 use Rattle.guid.specs.declared.Guid.{Guid}
 use Rattle.guid.specs.Guid.{guidOf, Fitting, wireBytes, guidAt, firstHalf, secondHalf, guidOfHalves, isNull}
 
@@ -25,6 +25,11 @@ null-last g p q r = rw (eq-eqb (g .w0) 0 p, eq-eqb (g .w1) 0 q, eq-eqb (g .w2) 0
 word-in : (p t : List ℕ) (n at : ℕ) → length p ≡ at → word 4 (p ++ (bytesOf 4 n ++ t)) at ≡ n % 256 ^ 4
 word-in p t n at e =
     ap (λ (k : ℕ). word 4 (p ++ (bytesOf 4 n ++ t)) k) (sym e ∙ sym (add-zero (length p))) ∙ word-behind 4 p (bytesOf 4 n ++ t) 0 ∙ word-bytesOf 4 n t
+
+-- what is read out of bytes is a GUID that a program can hold
+pub read-fits : (s : List ℕ) (at : ℕ) → Bytes s → Fitting (guidAt s at)
+read-fits s at bytes =
+    record { fits0 = word-lt 4 s at bytes; fits1 = word-lt 4 s (at + 4) bytes; fits2 = word-lt 4 s (at + 8) bytes; fits3 = word-lt 4 s (at + 12) bytes }
 
 -- wire bytes that stand behind p, read back
 pub wire-read : (p t : List ℕ) (at : ℕ) (g : Guid) → length p ≡ at

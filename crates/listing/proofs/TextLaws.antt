@@ -11,7 +11,7 @@ use lib.ListN.{length, getD, set, take, drop, length-append, length-drop, drop-o
 use lib.Seq.{take-at, drop-at, drop-drop, length-take-le, set-split, take-all}
 use Rattle.words.specs.Buffer.{over, fitted}
 use Rattle.words.proofs.BufferLaws.{fitted-fits}
-use Rattle.guid.proofs.LentLaws.{tail, back, tail-is-drop}
+use Rattle.words.proofs.LentLaws.{tail, back, tail-is-drop}
 use Rattle.guid.proofs.DigitLaws.{length-text, length-spelled-most}
 use Rattle.guid.specs.declared.Guid.{Guid}
 use Rattle.guid.specs.Text.{textOf}

@@ -9,7 +9,7 @@ use lib.ListN.{length, getD, drop, length-append, length-drop, List·getD-append
 use Rattle.words.specs.Answer.{Answer, accepted, more, refused, refuse}
 use Rattle.words.specs.Buffer.{over, stretch}
 use Rattle.words.specs.Decide.{pick, _<?_, _⇒_, decide}
-use Rattle.guid.proofs.LentLaws.{tail, tail-is-drop}
+use Rattle.words.proofs.LentLaws.{tail, tail-is-drop}
 use Rattle.packet.specs.declared.Decoded.{Decoded}
 use Rattle.packet.specs.declared.Decoded.the-variants.{Read, More, Refused}
 use Rattle.packet.specs.declared.Packet.{Packet}

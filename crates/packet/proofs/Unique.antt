@@ -6,6 +6,7 @@ use Prim.Native.Nat.{ℕ}
 use lib.ListN.{getD}
 use Rattle.words.specs.Answer.{Answer, accepted, more, refused}
 use Rattle.words.specs.Statement.{OneResult}
+use Rattle.words.proofs.Unique.{equal-to-one}
 use Rattle.packet.specs.declared.PacketType.{PacketType}
 use Rattle.packet.specs.declared.PacketType.the-variants.{Message, Ack, SslAck}
 use Rattle.packet.specs.declared.PacketError.{PacketError}
@@ -15,7 +16,7 @@ use Rattle.packet.specs.declared.Decoded.{Decoded}
 use Rattle.packet.specs.declared.Decoded.the-variants.{Read, More, Refused}
 use Rattle.packet.specs.Reading.{tableAfter}
 use Rattle.packet.specs.Paper.{typeNumber, typeOf, numberOf, valuesOf, errorOf, fieldsOf, paper}
-use Rattle.packet.specs.Statement.{Decodes}
+use Rattle.packet.specs.Statement.{Decodes, TellsVariableHeader}
 
 type-back : (t : PacketType) → typeOf (typeNumber t) ≡ t
 type-back Message = refl
@@ -68,3 +69,6 @@ decode-with-unique s limit ceiling table x x′ p p′ =
 
 pub decode-unique : (s : List ℕ) (limit : ℕ) (table : List ℕ) → OneResult (λ (x : Decoded × List ℕ). Decodes s limit 65536 table (x .0) (x .1))
 decode-unique s limit table = decode-with-unique s limit 65536 table
+
+pub has-variable-header-unique : (type : PacketType) (n : ℕ) → OneResult (TellsVariableHeader type n)
+has-variable-header-unique type n = equal-to-one _

@@ -15,7 +15,7 @@ ghost use Rattle.packet.specs.Layout as Layout;
 ghost use Rattle.packet.specs.Layout.{nullSize, largestPart, mostParts, headers, type, fields, whole, hasVariableHeader};
 ghost use Rattle.packet.specs.Reading.{nullLength, entriesFrom};
 ghost use Rattle.packet.specs.Paper.{typeNumber, fieldsOf};
-ghost use Rattle.packet.specs.Statement.{Decodes};
+ghost use Rattle.packet.specs.Statement.{Decodes, TellsVariableHeader};
 ghost use Rattle.packet.specs.Stages.{Verifies, PartVerifies, FixedStage, SizesStage, SizedStage, VariableStage, PartsStage, BodyStage};
 
 pub const SIGNATURE: u32 = 0x7861_6d4f;
@@ -359,8 +359,9 @@ fn fill(input: &[u8], count: usize, parts: &mut [u64])
     }
 }
 
-fn has_variable_header(packet_type: PacketType, count: u32) -> bool
-    ensures { λ r. ⌜ r ≡ hasVariableHeader (typeNumber «packet_type») count ⌝ }
+// Messages always have a variable header, other packets only when they have parts.
+pub fn has_variable_header(packet_type: PacketType, count: usize) -> bool
+    ensures { λ r. ⌜ TellsVariableHeader «packet_type» count r ⌝ }
 {
     match packet_type {
         PacketType::Message => true,
@@ -450,7 +451,7 @@ pub fn decode_with(
                 };
             }
             let packet_type = packet.packet_type;
-            if has_variable_header(packet_type, count) {
+            if has_variable_header(packet_type, count as usize) {
                 return body(
                     &table,
                     input,

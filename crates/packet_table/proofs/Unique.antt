@@ -16,7 +16,7 @@ use Rattle.packet_table.specs.declared.Validated.the-variants.{Valid, Re
 use Rattle.packet_table.specs.declared.Measured.{Measured}
 use Rattle.packet_table.specs.declared.Measured.the-variants.{Size, Refused as Unsized}
 use Rattle.packet_table.specs.Paper.{paperValidated, paperMeasured}
-use Rattle.packet_table.specs.Statement.{Contains, Validates, Measures, LendsPart, PartChecksumIs, TellsVariableHeader, TellsNull}
+use Rattle.packet_table.specs.Statement.{Contains, Validates, Measures, LendsPart, PartChecksumIs, TellsNull}
 
 -- of an answer, by what an acceptance and a refusal are
 abbrev pub told : {R : Type 0} → (ℕ → R) → (PacketError → R) → Answer → R
@@ -57,9 +57,6 @@ part-unique input table i = equal-to-one _
 
 pub part-checksum-unique : (input table : List ℕ) (i : ℕ) → OneResult (PartChecksumIs input table i)
 part-checksum-unique input table i = equal-to-one _
-
-pub has-variable-header-unique : (type : PacketType) (n : ℕ) → OneResult (TellsVariableHeader type n)
-has-variable-header-unique type n = equal-to-one _
 
 pub validate-unique : (area table : List ℕ) → OneResult (Validates area table)
 validate-unique area table = one-to-one paperValidated validated-back validated-undone _

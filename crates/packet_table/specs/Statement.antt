@@ -8,7 +8,6 @@ use Rattle.words.specs.Decide.{_=?_}
 use Rattle.crc64.specs.Polynomial.{checksum}
 use Rattle.packet.specs.declared.PacketType.{PacketType}
 use Rattle.packet.specs.declared.PacketFlags.{PacketFlags}
-use Rattle.packet.specs.Layout.{hasVariableHeader}
 use Rattle.packet.specs.Paper.{typeNumber}
 use Rattle.packet_table.specs.declared.Validated.{Validated}
 use Rattle.packet_table.specs.declared.Measured.{Measured}
@@ -35,6 +34,3 @@ LendsPart input table i r = r ≡ lentAt input table i
 
 abbrev pub PartChecksumIs : List ℕ → List ℕ → ℕ → ℕ → Type 0
 PartChecksumIs input table i r = r ≡ checksum (lentAt input table i)
-
-abbrev pub TellsVariableHeader : PacketType → ℕ → Bool → Type 0
-TellsVariableHeader type n r = r ≡ hasVariableHeader (typeNumber type) n

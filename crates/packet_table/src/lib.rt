@@ -7,6 +7,7 @@ use packet::MAX_PART_SIZE;
 use packet::PacketError;
 use packet::PacketFlags;
 use packet::PacketType;
+use packet::has_variable_header;
 ghost use mathlib.Core.Path.{_≡_};
 ghost use Prim.Native.Nat.{_≤_, _*_};
 ghost use Rattle.words.specs.Decide.{first};
@@ -16,7 +17,7 @@ ghost use Rattle.packet.specs.Reading.{room};
 ghost use Rattle.packet_table.specs.Entries.{isOutside, isTooLarge, taken, takenFrom, offsetAt, sizeAt};
 ghost use Rattle.packet_table.specs.Wire.{sizeOf};
 ghost use Rattle.packet_table.specs.Checks.{capped, firstTooLarge};
-ghost use Rattle.packet_table.specs.Statement.{Contains, Validates, Measures, LendsPart, PartChecksumIs, TellsVariableHeader, TellsNull};
+ghost use Rattle.packet_table.specs.Statement.{Contains, Validates, Measures, LendsPart, PartChecksumIs, TellsNull};
 
 // The length word of a null part, whose offset is 0.
 const NULL_LENGTH: u64 = 0xffff_ffff_ffff_ffff;
@@ -178,17 +179,6 @@ pub fn validate(area: &[u8], parts: &[u64]) -> Validated
         });
     }
     Validated::Valid
-}
-
-// Messages always have a variable header, other packets only when they have parts.
-pub fn has_variable_header(packet_type: PacketType, count: usize) -> bool
-    ensures { λ r. ⌜ TellsVariableHeader «packet_type» count r ⌝ }
-{
-    match packet_type {
-        PacketType::Message => true,
-        PacketType::Ack => 0 < count,
-        PacketType::SslAck => 0 < count,
-    }
 }
 
 // The bytes of all parts, null parts having none.

@@ -14,7 +14,7 @@ use Rattle.words.proofs.BufferLaws.{fitted-fits, length-over, over-tail}
 use Rattle.crc64.specs.Polynomial.{checksum}
 use Rattle.packet_table.specs.Wire.{sealed}
 use Rattle.words.specs.Filling.{Filling}
-pub use Rattle.words.proofs.FillingLaws.{begins, opens, ends, room-left, length-now, place, front, mid-all, mid-room, mid-fits, leaves, step, word-opens, word-step, closes, word-closes}
+pub use Rattle.words.proofs.FillingLaws.{begins, opens, ends, room-left, length-now, place, front, mid-room, mid-fits, leaves, step, word-opens, word-step, closes, word-closes}
 
 -- the checksum of the front, behind it
 module _ (size : ℕ) (xs : List ℕ) where

@@ -4,13 +4,14 @@ use mathlib.Core.Bool.{Bool, true, false, not, _&&_}
 use mathlib.Core.List.{List, [], _∷_, _++_}
 use Prim.Native.Nat.{ℕ, zero, suc, _+_, _*_, _-_, _<_, _≤_}
 use native.Mathlib.Omega.{arith}
-use lib.ListN.{length, take, drop, length-append, length-drop}
-use lib.Seq.{length-take-le, getD-drop}
+use lib.ListN.{length, drop, length-append, length-drop}
+use lib.Seq.{length-take-le}
 use Rattle.words.specs.Decide.{pick, _<?_}
 use Rattle.words.proofs.DecideLaws.{pick-case}
 use Rattle.words.specs.Word.{bytesOf, Bytes}
 use Rattle.words.proofs.WordLaws.{length-bytesOf}
 use Rattle.crc64.specs.Polynomial.{checksum, fold}
+use Rattle.crc64.proofs.Burst.{bytes-take, bytes-drop}
 use Rattle.packet.specs.Layout.{hasVariableHeader, headers}
 use Rattle.packet.specs.Reading.{room}
 use Rattle.packet_table.specs.Entries.{offsetAt, sizeAt, nullAt, outsideAt, stretchAt, lentAt}
@@ -92,15 +93,6 @@ sum-content null = refl
 sum-content (bytes bs) = refl
 
 -- what is lent of an area of bytes is bytes
-pub bytes-take : (n : ℕ) (s : List ℕ) → Bytes s → Bytes (take n s)
-bytes-take zero s small i = omega arith
-bytes-take (suc n) [] small i = omega arith
-bytes-take (suc n) (x ∷ s) small zero = small 0
-bytes-take (suc n) (x ∷ s) small (suc i) = bytes-take n s (λ j. small (suc j)) i
-
-bytes-drop : (n : ℕ) (s : List ℕ) → Bytes s → Bytes (drop n s)
-bytes-drop n s small i = rw (getD-drop n s i 0) (small (n + i))
-
 pub bytes-lent : (area table : List ℕ) (i : ℕ) → Bytes area → Bytes (lentAt area table i)
 unfolding lentAt
 bytes-lent area table i small =

@@ -176,7 +176,7 @@ fn write_packet(
     let count = parts.len() / ENTRY_WORDS;
     let table = crc64::table();
     write_fixed(&table, packet_type, flags, id, count as u32, out);
-    if packet_table::has_variable_header(packet_type, count) {
+    if packet::has_variable_header(packet_type, count) {
         write_body(&table, area, parts, &mut out[FIXED_HEADER_SIZE..]);
     }
 }

@@ -3,7 +3,7 @@
 use mathlib.Core.Path.{_≡_, refl, sym, _∙_, ap}
 use mathlib.Core.Bool.{Bool, true, false, not, _&&_, or-true}
 use mathlib.Core.List.{List, [], _∷_}
-use mathlib.Core.Logic.{⊎-elim, _⊎_, inl, inr}
+use mathlib.Core.Logic.{⊎-elim, inl, inr}
 use Prim.Native.Nat.{ℕ, zero, suc, _+_, _*_, _<_, _≤_, min}
 use native.Mathlib.Nat.{zero-add, le-trans}
 use native.Mathlib.Omega.{arith}
@@ -51,11 +51,11 @@ module _ (s t : List ℕ) (limit ceiling room : ℕ) {at run : ℕ} (bytes-s : B
         failed = rw (← word-is) (broken (fixedSum s) (take 28 s) (take 28 t) kept (before .guarded) (other-checksum damaged 0 28 (omega arith) (omega arith) few bytes-s bytes-t))
 
         by-type : (b : Bool) → (signature t ≠? packetSignature) ≡ false → (2 <? type t) ≡ b → Names t fixedHeader (decide (order t (count t) limit ceiling room) (accepted (whole t (count t)) (fields t)))
-        by-type true e₁ e₂ = inr (inl (rw (long-enough, e₁, e₂)))
-        by-type false e₁ e₂ = inr (inr (rw (long-enough, e₁, e₂, failed)))
+        by-type true e₁ e₂ = rw (long-enough, e₁, e₂)
+        by-type false e₁ e₂ = rw (long-enough, e₁, e₂, failed)
 
         by-signature : (b : Bool) → (signature t ≠? packetSignature) ≡ b → Names t fixedHeader (decide (order t (count t) limit ceiling room) (accepted (whole t (count t)) (fields t)))
-        by-signature true e = inl (rw (long-enough, e))
+        by-signature true e = rw (long-enough, e)
         by-signature false e = by-type (2 <? type t) e refl
 
     -- where the run lies behind the fixed header, that header is read as before
@@ -190,50 +190,55 @@ counted-header : (s : List ℕ) (i : ℕ) → i < count s → hasVariableHeader 
 counted-header s i h = rw (lt-ltb 0 (count s) (omega arith)) (or-true (type s =? 0))
 
 -- Demand 3: damage is named. An accepted packet, damaged only inside one run of at most eight bytes of one checksummed stretch
--- whose stored word is not 0, is refused by that stretch's checksum: an altered term does not pass for another term.
+-- whose stored word is not 0, is refused by that stretch's checksum (or by 1 or 2, where its signature or type is none any more):
+-- an altered term does not pass for another term.
 pub damage-is-named : DamageIsNamed
 unfolding reading
-damage-is-named s t limit ceiling room n f fixedHeader at run bytes-s bytes-t e has kept few low high damaged =
-    fixed-named s t limit ceiling room bytes-s bytes-t few damaged
+damage-is-named s t limit ceiling room n f fixedHeader at run e hit =
+    fixed-named s t limit ceiling room (hit .bytes-before) (hit .bytes-after) (hit .few) (hit .damaged)
     (lines-before s (count s) limit ceiling room _ (accepted n f) refl e .0)
-    kept
-    (rw (zero-add 28) at high)
-damage-is-named s t limit ceiling room n f variableHeader at run bytes-s bytes-t e has kept few low high damaged =
-    variable-named s t limit ceiling room bytes-s bytes-t few damaged
+    (hit .guarded)
+    (rw (zero-add 28) at (hit .ends))
+damage-is-named s t limit ceiling room n f variableHeader at run e hit =
+    variable-named s t limit ceiling room (hit .bytes-before) (hit .bytes-after) (hit .few) (hit .damaged)
     (lines-before s (count s) limit ceiling room _ (accepted n f) refl e .0)
-    low
-    has
-    (lines-behind s (count s) limit ceiling room _ (accepted n f) refl e has .0)
-    kept
-    high
-damage-is-named s t limit ceiling room n f (partAt i) at run bytes-s bytes-t e has kept few low high damaged =
-    let there : hasVariableHeader (type s) (count s) ≡ true = counted-header s i (has .0) in
-    part-named s t limit ceiling room bytes-s bytes-t few damaged
+    (hit .starts)
+    (hit .has)
+    (lines-behind s (count s) limit ceiling room _ (accepted n f) refl e (hit .has) .0)
+    (hit .guarded)
+    (hit .ends)
+damage-is-named s t limit ceiling room n f (partAt i) at run e hit =
+    let low : start s (count s) i ≤ at = hit .starts in
+    let there : hasVariableHeader (type s) (count s) ≡ true = counted-header s i (hit .has .0) in
+    part-named s t limit ceiling room (hit .bytes-before) (hit .bytes-after) (hit .few) (hit .damaged)
     (lines-before s (count s) limit ceiling room _ (accepted n f) refl e .0)
     (omega arith)
     there
     (lines-behind s (count s) limit ceiling room _ (accepted n f) refl e there .0)
     (omega arith)
     i
-    (has .0)
-    (has .1)
-    kept
+    (hit .has .0)
+    (hit .has .1)
+    (hit .guarded)
     low
-    high
+    (hit .ends)
 
 -- an answer that names a stretch is no acceptance
 not-taken : (t : List ℕ) (stretch : Stretch) (a : Answer) → Names t stretch a → NotTaken a
-not-taken t fixedHeader a named =
-    ⊎-elim (λ (e : a ≡ refuse 1 (signature t ∷ [])). rw e tt)
-    (⊎-elim (λ (e : a ≡ refuse 2 (type t ∷ [])). rw e tt) (λ (e : a ≡ refuse 5 (fixedSum t ∷ checksum (take 28 t) ∷ [])). rw e tt))
-    named
+not-taken t fixedHeader a named = rw named (by-tests (signature t ≠? packetSignature) (2 <? type t))
+  where
+    by-tests : (unsigned unknown : Bool)
+        → NotTaken (pick unsigned (refuse 1 (signature t ∷ [])) (pick unknown (refuse 2 (type t ∷ [])) (refuse 5 (fixedSum t ∷ checksum (take 28 t) ∷ []))))
+    by-tests true unknown = tt
+    by-tests false true = tt
+    by-tests false false = tt
 not-taken t variableHeader a named = rw named tt
 not-taken t (partAt i) a named = rw named tt
 
 -- Demand 3 of the function `decode_with`: damage is named, and the lent table is left as it was.
 pub decode-names-damage : DecodeNamesDamage
-decode-names-damage s t limit ceiling table packet consumed filled r after stretch at run bytes-s bytes-t taken told has kept few low high damaged =
+decode-names-damage s t limit ceiling table packet consumed filled r after stretch at run taken hit told =
     let named : Names t stretch (paper r) =
     rw (told .answer)
-    (damage-is-named s t limit ceiling (room table) consumed (fieldsOf packet) stretch at run bytes-s bytes-t (sym (taken .answer)) has kept few low high damaged) in
+    (damage-is-named s t limit ceiling (room table) consumed (fieldsOf packet) stretch at run (sym (taken .answer)) hit) in
     (named, packet-tables-keep t limit ceiling table r after told .0 (not-taken t stretch (paper r) named))

@@ -4,9 +4,10 @@ ghost use Prim.Native.Nat.{_≤_, _+_, _*_};
 ghost use mathlib.Core.List.{[]};
 ghost use lib.ListN.{length};
 ghost use lib.Seq.{sets};
-ghost use Rattle.wire_value.specs.Layout.{valuesIn, nextValue, nextValues, nextRows, valueCount, entry, entries, rowWords, valueWords, fourth, fifth};
+ghost use Rattle.wire_value.specs.Layout.{nextValue, nextValues, nextRows, valueCount, entry, entries, rowWords, valueWords, fourth, fifth};
 ghost use Rattle.wire_value.specs.ValueOf.{headerAt};
-use super::walk::NULL_ROW_MARKER;
+use wire_value::row::ENTRY_WORDS;
+use wire_value::row::values_in;
 use wire_value::value::Header;
 use wire_value::value::padded;
 use wire_value::value::read_header;
@@ -82,16 +83,6 @@ fn flag(byte: u8) -> u64
     if byte == 0 { 0 } else { 1 }
 }
 
-// How many values a row's word stands for.
-pub(crate) fn values_in(count: u64) -> u64
-    ensures { λ r. ⌜ r ≡ valuesIn count ⌝ }
-{
-    if count == NULL_ROW_MARKER {
-        return 0;
-    }
-    count
-}
-
 // The entry of the value at `at`, to the word `k` of the table on. Answers where the next value begins.
 fn fill_value(input: &[u8], at: usize, values: &mut [u64], k: usize) -> usize
     requires { ⌜ (nextValue (now input) at ≤ length (now input)) × (k + 5 ≤ length (now values)) ⌝ }
@@ -116,7 +107,7 @@ fn fill_values(input: &[u8], count: u64, start: usize, values: &mut [u64], first
     let mut k = first;
     while 0 < left {
         at = fill_value(input, at, values, k);
-        k += 5;
+        k += ENTRY_WORDS;
         left -= 1;
     }
     at
@@ -134,7 +125,7 @@ pub(crate) fn fill_rows(input: &[u8], count: usize, rows: &mut [u64], values: &m
         let more = values_in(word);
         rows[row] = word;
         at = fill_values(input, more, at + 8, values, k);
-        k += 5 * (more as usize);
+        k += ENTRY_WORDS * (more as usize);
         row += 1;
     }
 }

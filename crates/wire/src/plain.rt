@@ -7,15 +7,13 @@ ghost use Rattle.wire.specs.Plain.{zeros, plainValue, plainValues, plain
 ghost use Rattle.wire.specs.Stage.{PlainTill};
 ghost use Rattle.wire.specs.Statement.{TellsPlain};
 use super::fill::read_payload;
-use super::fill::values_in;
 use super::walk::Walked;
 use super::walk::walk_rowset;
+use wire_value::row::MAX_ROWSET_SIZE;
+use wire_value::row::values_in;
 use wire_value::value::padded;
 use wire_value::value::read_header;
 use words::read::read_u64;
-
-// 2^30: one rowset is one part of a packet.
-pub const MAX_ROWSET_SIZE: usize = 1024 * 1024 * 1024;
 
 pub(crate) enum Plain {
     // All values up to this offset are plain.

@@ -3,15 +3,12 @@ ghost use Prim.Native.Nat.{_≤_, _+_};
 ghost use lib.ListN.{length};
 ghost use Rattle.wire.specs.Stage.{WalksValues, WalksRow, WalksRows, WalksRowset};
 use wire_value::error::WireError;
+use wire_value::row::MAX_ROWS_PER_ROWSET;
+use wire_value::row::MAX_VALUES_PER_ROW;
+use wire_value::row::NULL_ROW_MARKER;
 use wire_value::value::Checked;
 use wire_value::value::check_value;
 use words::read::read_u64;
-
-pub const NULL_ROW_MARKER: u64 = 0xffff_ffff_ffff_ffff;
-
-pub const MAX_ROWS_PER_ROWSET: u64 = 5 * 1024 * 1024;
-
-pub const MAX_VALUES_PER_ROW: u64 = 1024;
 
 pub(crate) enum Walked {
     // The next offset, and how many values were passed.

@@ -39,13 +39,6 @@ or-nothing false = refl
 
 -- Rows
 
--- a null row has no values
-pub in-null : (count : ℕ) → count ≡ nullMark → 0 ≡ valuesIn count
-in-null count h = rw (eq-eqb count nullMark h)
-
-pub in-count : (count : ℕ) → (count ≡ nullMark → ⊥) → count ≡ valuesIn count
-in-count count h = rw (ne-eqb count nullMark h)
-
 -- the values of the rows from i on
 pub total-more : (rows : List ℕ) (i : ℕ) → i < length rows → total (drop i rows) ≡ valuesIn (getD rows i 0) + total (drop (i + 1) rows)
 unfolding total

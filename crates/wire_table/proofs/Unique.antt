@@ -1,18 +1,16 @@
 -- One result for each statement: two results that meet a public function's statement are equal.
 -- Assumes nothing.
 use mathlib.Core.Path.{_≡_, sym, _∙_, ap}
-use mathlib.Core.List.{List, [], _∷_}
+use mathlib.Core.List.{List, []}
 use Prim.Native.Nat.{ℕ}
 use Rattle.words.specs.Answer.{accepted}
 use Rattle.words.specs.Statement.{OneResult}
-use Rattle.words.proofs.Unique.{equal-to-one}
-use Rattle.wire_value.specs.Layout.{valuesIn}
 use Rattle.wire_value.proofs.Unique.{paper-injective, paper-never-accepted}
-use Rattle.wire_table.specs.Measure.{CountsValues, Measures, paperMeasured}
+use Rattle.wire_table.specs.Measure.{Measures, paperMeasured}
 use Rattle.wire_table.specs.declared.size.Measured.{Measured}
 use Rattle.wire_table.specs.declared.size.Measured.the-variants.{Size, Refused}
 
-told-size : (m n : ℕ) → accepted 0 (m ∷ []) ≡ accepted 0 (n ∷ []) → m ≡ n
+told-size : (m n : ℕ) → accepted m [] ≡ accepted n [] → m ≡ n
 told-size m n same = cc
 
 measured-one : (r r′ : Measured) → paperMeasured r ≡ paperMeasured r′ → r ≡ r′
@@ -23,6 +21,3 @@ measured-one (Refused e) (Refused f) same = ap Refused (paper-injective e f same
 
 pub encoded-size-unique : (area rows values : List ℕ) → OneResult (Measures area rows values)
 encoded-size-unique area rows values r r′ p q = measured-one r r′ (p ∙ sym q)
-
-pub values-in-unique : (count : ℕ) → OneResult (CountsValues count)
-values-in-unique count = equal-to-one (valuesIn count)

@@ -217,7 +217,7 @@ module _ (area rows values : List ℕ) where
   -- what the writer goes by says what the size is
   fits-measures : (r : Measured) → Fits area rows values r → Measures area rows values r
   unfolding measuring
-  fits-measures (Size n) fits = ap (λ (m : ℕ). accepted 0 (m ∷ [])) (fits .1 .0) ∙ sym (fits .1 .2 _)
+  fits-measures (Size n) fits = ap (λ (m : ℕ). accepted m []) (fits .1 .0) ∙ sym (fits .1 .2 _)
   fits-measures (Refused refusal) fits = sym (fits _)
 
   module _ (v : Verdict) (checks : ChecksTables area rows values v) where

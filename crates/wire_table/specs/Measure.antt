@@ -6,17 +6,13 @@ use mathlib.Core.List.{List, [], _∷_}
 use lib.ListN.{length}
 use Rattle.words.specs.Answer.{Answer, accepted}
 use Rattle.words.specs.Decide.{decide}
-use Rattle.wire_value.specs.Layout.{maxSize, entryWords, valuesIn}
+use Rattle.wire_value.specs.Layout.{maxSize, entryWords}
 use Rattle.wire_value.specs.Refusal.{paper}
 use Rattle.wire_table.specs.Writing.{total, badEntry, tooLarge, tableOrder, rowsetSize, fitting, measuring}
 use Rattle.wire_table.specs.declared.table.Verdict.{Verdict}
 use Rattle.wire_table.specs.declared.table.Verdict.the-variants.{Passed, Failed}
 use Rattle.wire_table.specs.declared.size.Measured.{Measured}
 use Rattle.wire_table.specs.declared.size.Measured.the-variants.{Size, Refused}
-
--- `values_in`: how many values a row's word stands for
-abbrev pub CountsValues : ℕ → ℕ → Type 0
-CountsValues count r = r ≡ valuesIn count
 
 -- no entry is bad, wherever in the table it begins
 abbrev pub Good : List ℕ → List ℕ → Type 0
@@ -43,7 +39,7 @@ abbrev pub Adds : ℕ → ℕ → Measured → Type 0
 Adds size more r = Follows (decide (tooLarge (size + more) ∷ [])) (size + more) r
 
 abbrev pub paperMeasured : Measured → Answer
-paperMeasured (Size n) = accepted 0 (n ∷ [])
+paperMeasured (Size n) = accepted n []
 paperMeasured (Refused refusal) = paper refusal
 
 -- `encoded_size`

@@ -138,7 +138,7 @@ fitting area rows values rest =
 
 -- what `encoded_size` answers: nothing is written, and the size is told
 unfoldable pub measuring : List ℕ → List ℕ → List ℕ → Answer
-measuring area rows values = fitting area rows values (accepted 0 (rowsetSize rows values ∷ []))
+measuring area rows values = fitting area rows values (accepted (rowsetSize rows values) [])
 
 -- what writing into an output of so many bytes answers: how many are written
 unfoldable pub writing : List ℕ → List ℕ → List ℕ → ℕ → Answer

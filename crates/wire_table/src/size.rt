@@ -6,17 +6,15 @@ ghost use Rattle.words.specs.Decide.{decide};
 ghost use Rattle.wire_value.specs.Layout.{maxSize, entryWords, valuesIn};
 ghost use Rattle.wire_table.specs.Writing.{total, capped, valueOrder, fitValues, fitRow, fitRows, sizeOf, valuesSize, rowSize, rowsetSize};
 ghost use Rattle.wire_table.specs.Measure.{Follows, Adds, Measures, Fits};
-use super::table::ENTRY_WORDS;
 use super::table::Verdict;
 use super::table::check_tables;
-use super::table::values_in;
 use wire_value::error::WireError;
+use wire_value::row::ENTRY_WORDS;
+use wire_value::row::MAX_ROWSET_SIZE;
+use wire_value::row::MAX_VALUES_PER_ROW;
+use wire_value::row::values_in;
 use wire_value::value::MAX_VALUE_LENGTH;
 use wire_value::value::padded;
-
-pub const MAX_VALUES_PER_ROW: u64 = 1024;
-
-pub const MAX_ROWSET_SIZE: usize = 1024 * 1024 * 1024;
 
 pub enum Measured {
     Size(usize),

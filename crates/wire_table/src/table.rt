@@ -5,29 +5,15 @@ ghost use lib.ListN.{length};
 ghost use Rattle.words.specs.Decide.{_=?_};
 ghost use Rattle.wire_value.specs.Layout.{entryWords};
 ghost use Rattle.wire_table.specs.Writing.{total, bad, badEntry, firstBad};
-ghost use Rattle.wire_table.specs.Measure.{CountsValues, ChecksTables};
+ghost use Rattle.wire_table.specs.Measure.{ChecksTables};
 use wire_value::error::WireError;
-
-pub const NULL_ROW_MARKER: u64 = 0xffff_ffff_ffff_ffff;
-
-pub const MAX_ROWS_PER_ROWSET: usize = 5 * 1024 * 1024;
-
-// The words of a value's entry.
-pub const ENTRY_WORDS: usize = 5;
+use wire_value::row::ENTRY_WORDS;
+use wire_value::row::MAX_ROWS_PER_ROWSET;
+use wire_value::row::values_in;
 
 pub(crate) enum Verdict {
     Passed,
     Failed(WireError),
-}
-
-// A null row has no values.
-pub fn values_in(count: u64) -> u64
-    ensures { λ r. ⌜ CountsValues count r ⌝ }
-{
-    if count == NULL_ROW_MARKER {
-        return 0;
-    }
-    count
 }
 
 // Whether the rows have so many values. What is left is counted down, so that no sum can wrap.
@@ -141,7 +127,7 @@ pub(crate) fn check_tables(area: &[u8], rows: &[u64], values: &[u64]) -> Verdict
             position: bad,
         });
     }
-    if MAX_ROWS_PER_ROWSET < rows.len() {
+    if MAX_ROWS_PER_ROWSET < rows.len() as u64 {
         return Verdict::Failed(WireError::TooManyRows {
             count: rows.len() as u64,
         });

@@ -6,10 +6,10 @@ use native.Mathlib.Omega.{arith}
 use Rattle.words.specs.Answer.{Answer, accepted, more, refused}
 use Rattle.words.specs.Statement.{OneResult}
 use Rattle.words.proofs.Unique.{equal-to-one}
-use Rattle.wire_value.specs.Layout.{padded}
+use Rattle.wire_value.specs.Layout.{valuesIn, padded}
 use Rattle.wire_value.specs.Refusal.{paper, unpaper}
 use Rattle.wire_value.specs.ValueOf.{headerAt}
-use Rattle.wire_value.specs.Statement.{Pads, ReadsHeader, ChecksValue, ReadsValue}
+use Rattle.wire_value.specs.Statement.{CountsValues, Pads, ReadsHeader, ChecksValue, ReadsValue}
 use Rattle.wire_value.specs.declared.error.WireError.{WireError}
 use Rattle.wire_value.specs.declared.error.WireError.the-variants.{Truncated, TooManyRows, TooManyValues, ValueTooLong, RowsetTooLarge, UnknownValueType, TrailingBytes, NoRoom, BadTable}
 use Rattle.wire_value.specs.declared.value.Checked.the-variants.{Passed, Failed}
@@ -51,6 +51,9 @@ paper-never-more e h = let z : _≡_ {A = ℕ} 1 0 = sym (paper-refuses e) ∙ a
 
 pub paper-never-accepted : (e : WireError) (n : ℕ) (fields : List ℕ) → paper e ≡ accepted n fields → ⊥
 paper-never-accepted e n fields h = let z : _≡_ {A = ℕ} 1 0 = sym (paper-refuses e) ∙ ap isRefused h in omega arith
+
+pub values-in-unique : (count : ℕ) → OneResult (CountsValues count)
+values-in-unique count = equal-to-one (valuesIn count)
 
 pub padded-unique : (n : ℕ) → OneResult (Pads n)
 padded-unique n = equal-to-one (padded n)

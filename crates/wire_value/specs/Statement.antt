@@ -6,7 +6,7 @@ use mathlib.Core.List.{List, [], _∷_}
 use lib.ListN.{length}
 use Rattle.words.specs.Answer.{Answer, accepted}
 use Rattle.words.specs.Decide.{decide}
-use Rattle.wire_value.specs.Layout.{padded, nextValue}
+use Rattle.wire_value.specs.Layout.{valuesIn, padded, nextValue}
 use Rattle.wire_value.specs.ValueOrder.{valueOrder, valueReading}
 use Rattle.wire_value.specs.Refusal.{paper}
 use Rattle.wire_value.specs.ValueOf.{headerAt, valueAt}
@@ -18,6 +18,10 @@ use Rattle.wire_value.specs.declared.value.Checked.{Checked}
 use Rattle.wire_value.specs.declared.value.Checked.the-variants.{Passed, Failed}
 use Rattle.wire_value.specs.declared.value.ReadValue.{ReadValue}
 use Rattle.wire_value.specs.declared.value.ReadValue.the-variants.{Got, Refused}
+
+-- how many values a row's word stands for
+abbrev pub CountsValues : ℕ → ℕ → Type 0
+CountsValues count r = r ≡ valuesIn count
 
 -- the length with its padding
 abbrev pub Pads : ℕ → ℕ → Type 0

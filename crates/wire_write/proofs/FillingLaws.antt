@@ -12,7 +12,7 @@ use Rattle.words.proofs.BufferLaws.{fitted-fits}
 use Rattle.words.proofs.FillingLaws as Laws
 use Rattle.wire_write.specs.Encode.{Puts}
 pub use Rattle.words.specs.Filling.{Filling}
-pub use Rattle.words.proofs.FillingLaws.{begins, room-left, length-now, mid-all}
+pub use Rattle.words.proofs.FillingLaws.{begins, room-left, length-now}
 
 -- the first piece, over the whole output
 pub opens : (ws rest : List ℕ) (at : ℕ) {before now : List ℕ} → length (ws ++ rest) ≤ length before → length ws ≡ at → now ≡ fitted ws before → Filling (ws ++ rest) rest before now at

@@ -1,16 +1,17 @@
 -- An output that is filled piece by piece, each piece by a writer that is lent the rest of it. The part that begins at `at` is
 -- `midOf at (length now - at) now`, and what comes back stands there as `putMid`. Assumes nothing.
-use mathlib.Core.Path.{_≡_, refl, sym, _∙_, ap, subst}
+use mathlib.Core.Path.{_≡_, refl, sym, _∙_, ap}
 use mathlib.Core.List.{List, [], _++_, append-assoc, append-nil}
 use Prim.Native.Nat.{ℕ, _+_, _-_, _≤_}
 use native.Mathlib.Omega.{arith}
-use lib.ListN.{length, take, drop, length-append, length-drop, drop-of-length-le, take-append-drop}
-use lib.Seq.{take-all, take-at, length-take-le, drop-drop}
+use lib.ListN.{length, take, drop, length-append, length-drop}
+use lib.Seq.{take-at}
 use borrow.Rule.Slice.PartMut.{midOf, putMid}
 use Rattle.words.specs.Word.{bytesOf}
 use Rattle.words.specs.Buffer.{over, fitted}
 use Rattle.words.proofs.WordLaws.{length-bytesOf}
-use Rattle.words.proofs.BufferLaws.{fitted-fits, length-over, over-tail}
+use Rattle.words.proofs.BufferLaws.{fitted-fits, length-over}
+use Rattle.words.proofs.LentLaws.{tail-is-drop, lent-over}
 use Rattle.words.specs.Filling.{Filling}
 
 -- nothing is written yet
@@ -51,14 +52,11 @@ module _ {whole rest before now : List ℕ} {at : ℕ} (f : Filling whole rest b
       ap (take at) (f .holds) ∙ take-at (f .done) (drop (length (f .done)) before) at (f .reached)
       ∙ sym (take-at (f .done) rest at (f .reached)) ∙ ap (take at) (f .joins)
 
-  pub mid-all : midOf at (length now - at) now ≡ drop at now
-  mid-all = take-all (length now - at) (drop at now) (rw length-drop (omega arith))
-
   pub mid-room : at + length rest ≤ at + length (midOf at (length now - at) now)
   mid-room =
       let left : at + length rest ≤ length before = room-left in
       let same : length now ≡ length before = length-now in
-      rw (mid-all, length-drop at now) (omega arith)
+      rw (tail-is-drop now at, length-drop at now) (omega arith)
 
 -- the lent part has room for the next piece
 pub mid-fits : (ws rest : List ℕ) {whole before now : List ℕ} {at : ℕ} → Filling whole (ws ++ rest) before now at → length ws ≤ length (midOf at (length now - at) now)
@@ -79,17 +77,12 @@ step ws rest next {before = before} {now = now} {after = after} {at = at} f reac
     let so-far : length (f .done) ≡ at = f .reached in
     let left : at + length (ws ++ rest) ≤ length before = room-left f in
     let both : length (ws ++ rest) ≡ length ws + length rest = length-append ws rest in
-    let nothing : drop (length now - at) (drop at now) ≡ [] = drop-of-length-le (drop at now) {i = length now - at} (rw length-drop (omega arith)) in
     record {
       done = f .done ++ ws;
       joins = append-assoc (f .done) ws rest ∙ f .joins;
       reached = length-append (f .done) ws ∙ omega arith;
       fits = f .fits;
-      holds =
-          ap (λ (z : List ℕ). take at now ++ (after ++ z)) nothing
-          ∙ ap (λ (z : List ℕ). take at now ++ z) (append-nil after ∙ e ∙ ap (λ (z : List ℕ). over ws z) (mid-all f))
-          ∙ ap (λ (z : List ℕ). take at z ++ over ws (drop at z)) (f .holds)
-          ∙ over-tail (f .done) ws before at (f .reached) (omega arith);
+      holds = lent-over (f .done) ws before now after at (f .holds) (f .reached) (omega arith) e;
     }
 
 -- a word of k bytes

@@ -3,4 +3,5 @@ pub mod WordLaws
 pub mod BufferLaws
 pub mod DecideLaws
 pub mod Unique
+pub mod LentLaws
 pub mod FillingLaws

@@ -31,6 +31,9 @@ returns c = let packet = c .before .before .before .packet .given .0 .0 in
     let header = rw (c .before .before .before .packet .given .1) at (c .before .before .before .before .before .fixed-header .ensures) in
     read-too-many _ _ _ _ packet header _ (c .before .most-parts .ensures) (c .if1 .taken)
 
+cast-has-variable-header : tie.Need-cast-has-variable-header
+cast-has-variable-header c = search needs
+
 has-variable-header-requires : tie.Need-has-variable-header-requires
 has-variable-header-requires c κs = search needs
 
@@ -74,6 +77,7 @@ decode-with-spec =
     enum-known-packet
     most-parts-requires
     returns
+    cast-has-variable-header
     has-variable-header-requires
     cast-body
     body-requires

@@ -7,9 +7,9 @@ use lib.ListN.{take}
 use lib.Seq.{length-take-le}
 use Rattle.words.specs.Word.{Bytes}
 use Rattle.crc64.specs.Polynomial.{checksum}
+use Rattle.crc64.proofs.Burst.{bytes-take}
 use Rattle.crc64.proofs.Entries.{checksum-over-is}
 use Rattle.packet_write.proofs.FillingLaws.{sealing, word-closes}
-use Rattle.packet_write.proofs.PieceLaws.{bytes-take}
 use borrow.Author.Needs.{needs}
 use Rattle.packet_write.proofs.seal.Statement.{statement}
 use Rattle.packet_write.proofs.seal.Tie as tie

@@ -9,7 +9,7 @@ use lib.ListN.{length, length-append}
 use Rattle.words.specs.Buffer.{over}
 use Rattle.words.proofs.BufferLaws.{fitted-fits, fitted-short}
 use Rattle.guid.specs.Text.{hex, dash, textOf}
-use Rattle.guid.proofs.LentLaws.{back, lent-over}
+use Rattle.words.proofs.LentLaws.{back, lent-over}
 use Rattle.guid.proofs.DigitLaws.{length-text, length-dashed, text-in-fields}
 use borrow.Author.Needs.{needs}
 use Rattle.guid.proofs.Guid.print.Statement.{statement}

@@ -10,7 +10,7 @@ use Rattle.words.specs.Buffer.{over}
 use Rattle.words.proofs.WordLaws.{length-bytesOf}
 use Rattle.words.proofs.BufferLaws.{fitted-fits, fitted-short}
 use Rattle.guid.specs.Guid.{wireBytes}
-use Rattle.guid.proofs.LentLaws.{back, lent-fitted}
+use Rattle.words.proofs.LentLaws.{back, lent-fitted}
 use Rattle.guid.proofs.WireLaws.{length-wire}
 use borrow.Author.Needs.{needs}
 use Rattle.guid.proofs.Guid.write.Statement.{statement}

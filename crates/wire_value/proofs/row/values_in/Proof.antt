@@ -1,8 +1,8 @@
--- `fill::values_in` meets its contract. Assumes nothing.
+-- `row::values_in` meets its contract. Assumes nothing.
 use borrow.Author.Tests.{eq-eqb, ne-eqb}
 use Rattle.wire_value.specs.Layout.{nullMark}
-use Rattle.wire.proofs.fill.values_in.Statement.{statement}
-use Rattle.wire.proofs.fill.values_in.Tie as tie
+use Rattle.wire_value.proofs.row.values_in.Statement.{statement}
+use Rattle.wire_value.proofs.row.values_in.Tie as tie
 
 returns : tie.Need-returns
 returns c = rw (eq-eqb (c .before .args .count) nullMark (c .if1 .taken))
