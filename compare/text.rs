@@ -39,7 +39,11 @@ pub fn number(word: &[u8]) -> Result<u64, BadCase> {
 }
 
 pub fn narrow(number: u64, most: u64) -> Result<u64, BadCase> {
-    if number > most { Err(BadCase) } else { Ok(number) }
+    if number > most {
+        Err(BadCase)
+    } else {
+        Ok(number)
+    }
 }
 
 /// How many zeros the short form stands for, where the word is one.

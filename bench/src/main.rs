@@ -1,13 +1,15 @@
-//! Times the Rust at the pinned commit and the port, in one process: the thread's CPU time, the median
-//! of nine rounds, each round a batch of calls. What a call consumes is made before the clock starts,
-//! and what it returns is dropped after it stops. Buffers that the port writes to are not cleared
-//! between calls, the Rust's output buffer is emptied and used again, and caches are warm.
+//! Times the Rust at the pinned commit, the port and the Rust crate over it, in one process: the
+//! thread's CPU time, the median of nine rounds, each round a batch of calls. What a call consumes is
+//! made before the clock starts, and what it returns is dropped after it stops. Buffers that the port
+//! writes to are not cleared between calls, the Rust's output buffer is emptied and used again, the
+//! crate's decoders keep their tables, and caches are warm.
 
 #[path = "../../compare/driver/src/face.rs"]
 #[allow(dead_code)]
 mod face;
 
 use bytes::{Bytes, BytesMut};
+use cablefinch::{packet as packets_of_crate, wire as rowsets_of_crate};
 use oracle::bus::packet::{self, Packet, PacketFlags, PacketType};
 use oracle::guid::Guid;
 use oracle::wire::{self, MaybeRow, UnversionedValue, Value};
@@ -53,7 +55,10 @@ fn isal() -> Option<Isal> {
 /// The thread's CPU time in nanoseconds.
 fn clock() -> u64 {
     const THREAD: i32 = 3;
-    let mut time = Time { seconds: 0, nanoseconds: 0 };
+    let mut time = Time {
+        seconds: 0,
+        nanoseconds: 0,
+    };
     // SAFETY: the struct is the C library's timespec on 64-bit Linux.
     let status = unsafe { clock_gettime(THREAD, &mut time) };
     assert!(status == 0);
@@ -78,17 +83,28 @@ fn time<I, O>(batch: usize, mut make: impl FnMut() -> I, mut call: impl FnMut(I)
     times[ROUNDS / 2]
 }
 
+/// The times of one line: of the Rust, of the port, and of the crate over the port.
+struct Times {
+    rust: f64,
+    port: f64,
+    wrapped: f64,
+}
+
 struct Table {
     wanted: Vec<String>,
     missed: usize,
 }
 
 impl Table {
-    fn line(&mut self, name: &str, size: usize, bar: Option<f64>, measure: impl FnOnce() -> (f64, f64)) {
+    fn line(&mut self, name: &str, size: usize, bar: Option<f64>, measure: impl FnOnce() -> Times) {
         if !self.wanted.is_empty() && !self.wanted.iter().any(|word| name.contains(word.as_str())) {
             return;
         }
-        let (rust, port) = measure();
+        let Times {
+            rust,
+            port,
+            wrapped,
+        } = measure();
         let ratio = rust / port;
         let verdict = match bar {
             None => "recorded".to_string(),
@@ -98,7 +114,13 @@ impl Table {
                 format!("{bar:.2} MISSED")
             }
         };
-        println!("| {name} | {size} | {} | {} | {ratio:.2} | {verdict} |", scaled(rust), scaled(port));
+        println!(
+            "| {name} | {size} | {} | {} | {ratio:.2} | {verdict} | {} | {:.2} |",
+            scaled(rust),
+            scaled(port),
+            scaled(wrapped),
+            rust / wrapped
+        );
     }
 }
 
@@ -139,10 +161,11 @@ fn checksums(table: &mut Table) {
         table.line(name, size, bar, || {
             let bytes = noise(size);
             assert!(oracle::crc64::checksum(&bytes) == face::checksum(&bytes));
-            (
-                time(batch, || (), |()| oracle::crc64::checksum(&bytes)),
-                time(batch, || (), |()| face::checksum(&bytes)),
-            )
+            Times {
+                rust: time(batch, || (), |()| oracle::crc64::checksum(&bytes)),
+                port: time(batch, || (), |()| face::checksum(&bytes)),
+                wrapped: time(batch, || (), |()| cablefinch::checksum(&bytes)),
+            }
         });
     }
 }
@@ -162,7 +185,9 @@ fn sample(kind: PacketType, count: usize, size: usize, summed: bool) -> Sample {
         packet_type: kind,
         flags: PacketFlags(0),
         id: id(),
-        parts: (0..count).map(|i| Some(whole.slice(i * size..(i + 1) * size))).collect(),
+        parts: (0..count)
+            .map(|i| Some(whole.slice(i * size..(i + 1) * size)))
+            .collect(),
     };
     let mut out = BytesMut::new();
     packet::encode(&packet, &mut out).unwrap();
@@ -173,8 +198,15 @@ fn sample(kind: PacketType, count: usize, size: usize, summed: bool) -> Sample {
             wire[36 + 4 * count..44 + 12 * count].fill(0);
         }
     }
-    let parts = (0..count).flat_map(|i| [(i * size) as u64, size as u64]).collect();
-    Sample { packet, wire, area, parts }
+    let parts = (0..count)
+        .flat_map(|i| [(i * size) as u64, size as u64])
+        .collect();
+    Sample {
+        packet,
+        wire,
+        area,
+        parts,
+    }
 }
 
 fn packets(table: &mut Table) {
@@ -188,27 +220,61 @@ fn packets(table: &mut Table) {
     encoded(table, "3 parts of 100 B encoded", 1_000, Some(0.97), small);
     decoded(table, "1,000 parts of 1 KiB decoded", 4, Some(0.97), large);
     encoded(table, "1,000 parts of 1 KiB encoded", 4, Some(0.97), large);
-    decoded(table, "1,000 parts of 1 KiB without checksums decoded", 40, Some(1.0), bare);
+    decoded(
+        table,
+        "1,000 parts of 1 KiB without checksums decoded",
+        40,
+        Some(1.0),
+        bare,
+    );
 }
 
-fn decoded(table: &mut Table, name: &str, batch: usize, bar: Option<f64>, make: impl Fn() -> Sample) {
+fn decoded(
+    table: &mut Table,
+    name: &str,
+    batch: usize,
+    bar: Option<f64>,
+    make: impl Fn() -> Sample,
+) {
     let sample = make();
     table.line(name, sample.wire.len(), bar, || {
         let mut parts = vec![0u64; 2 * sample.packet.parts.len()];
         let outcome = face::decode(&sample.wire, LIMIT, &mut parts);
         assert!(outcome.kind == face::ACCEPTED && outcome.count as usize == sample.wire.len());
-        (
-            time(
+        let mut decoder = packets_of_crate::Decoder::new();
+        let mut wrapped = || {
+            decoder
+                .decode(&sample.wire, LIMIT)
+                .unwrap()
+                .unwrap()
+                .packet
+                .parts
+                .len()
+        };
+        assert!(wrapped() == sample.packet.parts.len());
+        Times {
+            rust: time(
                 batch,
                 || BytesMut::from(&sample.wire[..]),
                 |mut input| (packet::decode(&mut input, LIMIT).unwrap(), input),
             ),
-            time(batch, || (), |()| face::decode(&sample.wire, LIMIT, &mut parts)),
-        )
+            port: time(
+                batch,
+                || (),
+                |()| face::decode(&sample.wire, LIMIT, &mut parts),
+            ),
+            wrapped: time(batch, || (), |()| wrapped()),
+        }
     });
 }
 
-fn encoded(table: &mut Table, name: &str, batch: usize, bar: Option<f64>, make: impl Fn() -> Sample) {
+fn encoded(
+    table: &mut Table,
+    name: &str,
+    batch: usize,
+    bar: Option<f64>,
+    make: impl Fn() -> Sample,
+) {
     let sample = make();
     table.line(name, sample.wire.len(), bar, || {
         let kind = sample.packet.packet_type as u64;
@@ -217,13 +283,45 @@ fn encoded(table: &mut Table, name: &str, batch: usize, bar: Option<f64>, make: 
         let id = sample.packet.id.0;
         let outcome = face::encode(kind, 0, &id, &sample.area, &sample.parts, &mut out);
         assert!(outcome.kind == face::ACCEPTED && out == sample.wire);
-        (
-            time(batch, || (), |()| {
-                buffer.clear();
-                packet::encode(black_box(&sample.packet), &mut buffer).unwrap();
-            }),
-            time(batch, || (), |()| face::encode(kind, 0, &id, &sample.area, &sample.parts, &mut out)),
-        )
+        let parts: Vec<_> = sample
+            .packet
+            .parts
+            .iter()
+            .map(|part| part.as_deref())
+            .collect();
+        let packet = packets_of_crate::Packet {
+            packet_type: match sample.packet.packet_type {
+                PacketType::Message => packets_of_crate::PacketType::Message,
+                PacketType::Ack => packets_of_crate::PacketType::Ack,
+                PacketType::SslAck => packets_of_crate::PacketType::SslAck,
+            },
+            flags: packets_of_crate::PacketFlags::NONE,
+            id: cablefinch::Guid(id),
+            parts: parts.into(),
+        };
+        let mut appended = Vec::new();
+        let mut wrapped = || {
+            appended.clear();
+            packets_of_crate::encode(black_box(&packet), &mut appended).unwrap();
+            appended.len()
+        };
+        assert!(wrapped() == sample.wire.len());
+        Times {
+            rust: time(
+                batch,
+                || (),
+                |()| {
+                    buffer.clear();
+                    packet::encode(black_box(&sample.packet), &mut buffer).unwrap();
+                },
+            ),
+            port: time(
+                batch,
+                || (),
+                |()| face::encode(kind, 0, &id, &sample.area, &sample.parts, &mut out),
+            ),
+            wrapped: time(batch, || (), |()| wrapped()),
+        }
     });
 }
 
@@ -241,14 +339,30 @@ fn rows(count: usize, null: impl Fn(usize) -> bool) -> Vec<MaybeRow> {
                 Value::Boolean(i % 2 == 0),
                 Value::String(text.clone()),
             ];
-            Some(values.into_iter().enumerate().map(|(id, value)| UnversionedValue::new(id as u16, value)).collect())
+            Some(
+                values
+                    .into_iter()
+                    .enumerate()
+                    .map(|(id, value)| UnversionedValue::new(id as u16, value))
+                    .collect(),
+            )
         })
         .collect()
 }
 
 fn rowsets(table: &mut Table) {
-    rowset(table, "rowset of 100,000 rows of 5 values", 1, &rows(100_000, |_| false));
-    rowset(table, "rowset of 1,000 rows, every third null", 100, &rows(1_000, |i| i % 3 == 2));
+    rowset(
+        table,
+        "rowset of 100,000 rows of 5 values",
+        1,
+        &rows(100_000, |_| false),
+    );
+    rowset(
+        table,
+        "rowset of 1,000 rows, every third null",
+        100,
+        &rows(1_000, |i| i % 3 == 2),
+    );
 }
 
 fn rowset(table: &mut Table, name: &str, batch: usize, sample: &[MaybeRow]) {
@@ -258,65 +372,227 @@ fn rowset(table: &mut Table, name: &str, batch: usize, sample: &[MaybeRow]) {
     let mut value_table = vec![0u64; 5 * count];
     let outcome = face::decode_rowset(&wire, &mut row_table, &mut value_table);
     assert!(outcome.kind == face::ACCEPTED && outcome.values[1] as usize == count);
+    let mut decoder = rowsets_of_crate::Decoder::new();
     table.line(&format!("{name} decoded"), wire.len(), Some(2.0), || {
-        (
-            time(batch, || (), |()| wire::decode_rowset(&wire).unwrap()),
-            time(batch, || (), |()| face::decode_rowset(&wire, &mut row_table, &mut value_table)),
-        )
+        Times {
+            rust: time(batch, || (), |()| wire::decode_rowset(&wire).unwrap()),
+            port: time(
+                batch,
+                || (),
+                |()| face::decode_rowset(&wire, &mut row_table, &mut value_table),
+            ),
+            wrapped: time(
+                batch,
+                || (),
+                |()| decoder.decode_rowset(&wire).unwrap().len(),
+            ),
+        }
     });
+    table.line(
+        &format!("{name} decoded, each value looked at"),
+        wire.len(),
+        None,
+        || {
+            let rust = || looked_at(&wire::decode_rowset(&wire).unwrap());
+            let mut port = || {
+                face::decode_rowset(&wire, &mut row_table, &mut value_table);
+                looked_at_words(&value_table)
+            };
+            let mut wrapped = || looked_at_rows(&decoder.decode_rowset(&wire).unwrap());
+            assert!(rust() == port() && rust() == wrapped());
+            Times {
+                rust: time(batch, || (), |()| rust()),
+                port: time(batch, || (), |()| port()),
+                wrapped: time(batch, || (), |()| wrapped()),
+            }
+        },
+    );
+    table.line(
+        &format!("{name} decoded, tables made anew"),
+        wire.len(),
+        None,
+        || Times {
+            rust: time(batch, || (), |()| wire::decode_rowset(&wire).unwrap()),
+            port: time(
+                batch,
+                || (),
+                |()| {
+                    let (mut rows, mut values) = (vec![0u64; sample.len()], vec![0u64; 5 * count]);
+                    face::decode_rowset(&wire, &mut rows, &mut values);
+                    (rows, values)
+                },
+            ),
+            wrapped: time(
+                batch,
+                || (),
+                |()| rowsets_of_crate::decode_rowset(&wire).unwrap(),
+            ),
+        },
+    );
     let mut out = vec![0u8; wire.len()];
     let outcome = face::encode_rowset(&wire, &row_table, &value_table, &mut out);
     assert!(outcome.kind == face::ACCEPTED && out == wire);
     let mut buffer = BytesMut::with_capacity(wire.len());
+    let read = rowsets_of_crate::decode_rowset(&wire).unwrap();
+    let rows: Vec<Option<Vec<_>>> = read
+        .rows()
+        .map(|row| row.map(|row| row.values().collect()))
+        .collect();
+    let mut appended = Vec::new();
     table.line(&format!("{name} encoded"), wire.len(), Some(1.5), || {
-        (
-            time(batch, || (), |()| {
-                buffer.clear();
-                wire::encode_rowset_into(black_box(sample), &mut buffer).unwrap();
-            }),
-            time(batch, || (), |()| face::encode_rowset(&wire, &row_table, &value_table, &mut out)),
-        )
+        Times {
+            rust: time(
+                batch,
+                || (),
+                |()| {
+                    buffer.clear();
+                    wire::encode_rowset_into(black_box(sample), &mut buffer).unwrap();
+                },
+            ),
+            port: time(
+                batch,
+                || (),
+                |()| face::encode_rowset(&wire, &row_table, &value_table, &mut out),
+            ),
+            wrapped: time(
+                batch,
+                || (),
+                |()| {
+                    appended.clear();
+                    rowsets_of_crate::encode_rowset_into(black_box(&rows), &mut appended).unwrap();
+                },
+            ),
+        }
     });
+}
+
+/// Something of each value: its column, and its bits or how many bytes it has.
+fn looked_at(rows: &[MaybeRow]) -> u64 {
+    let each = rows.iter().flatten().flatten().map(|value| {
+        let of = match &value.value {
+            Value::Null => 0,
+            Value::Int64(number) => *number as u64,
+            Value::Uint64(number) => *number,
+            Value::Double(number) => number.to_bits(),
+            Value::Boolean(truth) => u64::from(*truth),
+            Value::String(bytes) | Value::Any(bytes) | Value::Composite(bytes) => {
+                bytes.len() as u64
+            }
+        };
+        u64::from(value.id) ^ of
+    });
+    each.fold(0, u64::wrapping_add)
+}
+
+fn looked_at_words(values: &[u64]) -> u64 {
+    let each = values
+        .chunks_exact(5)
+        .map(|words| words[0] ^ if words[1] < 16 { words[3] } else { words[4] });
+    each.fold(0, u64::wrapping_add)
+}
+
+fn looked_at_rows(rowset: &rowsets_of_crate::Rowset<'_>) -> u64 {
+    use rowsets_of_crate::Value;
+    let each = rowset
+        .rows()
+        .flatten()
+        .flat_map(|row| row.values())
+        .map(|value| {
+            let of = match value.value {
+                Value::Null => 0,
+                Value::Int64(number) => number as u64,
+                Value::Uint64(number) => number,
+                Value::Double(number) => number.to_bits(),
+                Value::Boolean(truth) => u64::from(truth),
+                Value::String(bytes) | Value::Any(bytes) | Value::Composite(bytes) => {
+                    bytes.len() as u64
+                }
+            };
+            u64::from(value.id) ^ of
+        });
+    each.fold(0, u64::wrapping_add)
 }
 
 fn guids(table: &mut Table) {
     let id = id();
     let text = id.to_string();
     let mut out = [0u8; 64];
-    assert!(face::guid_print(&id.0, &mut out).count as usize == text.len() && out.starts_with(text.as_bytes()));
+    assert!(
+        face::guid_print(&id.0, &mut out).count as usize == text.len()
+            && out.starts_with(text.as_bytes())
+    );
     table.line("GUID printed", 16, Some(1.0), || {
-        let mut buffer = [0u8; 64];
-        (
-            time(20_000, || (), |()| write!(&mut buffer[..], "{}", black_box(&id)).unwrap()),
-            time(20_000, || (), |()| face::guid_print(&id.0, &mut out)),
-        )
+        let (mut buffer, mut other) = ([0u8; 64], [0u8; 64]);
+        let wrapped = cablefinch::Guid(id.0);
+        Times {
+            rust: time(
+                20_000,
+                || (),
+                |()| write!(&mut buffer[..], "{}", black_box(&id)).unwrap(),
+            ),
+            port: time(20_000, || (), |()| face::guid_print(&id.0, &mut out)),
+            wrapped: time(
+                20_000,
+                || (),
+                |()| write!(&mut other[..], "{}", black_box(&wrapped)).unwrap(),
+            ),
+        }
     });
     let parsed = face::guid_parse(text.as_bytes());
-    assert!(text.parse::<Guid>().unwrap().parts().iter().zip(parsed.values).all(|(&a, b)| u64::from(a) == b));
-    table.line("GUID read", text.len(), Some(1.0), || {
-        (
-            time(20_000, || (), |()| black_box(&text[..]).parse::<Guid>().is_ok()),
-            time(20_000, || (), |()| face::guid_parse(text.as_bytes())),
-        )
+    assert!(
+        text.parse::<Guid>()
+            .unwrap()
+            .parts()
+            .iter()
+            .zip(parsed.values)
+            .all(|(&a, b)| u64::from(a) == b)
+    );
+    table.line("GUID read", text.len(), Some(1.0), || Times {
+        rust: time(
+            20_000,
+            || (),
+            |()| black_box(&text[..]).parse::<Guid>().is_ok(),
+        ),
+        port: time(20_000, || (), |()| face::guid_parse(text.as_bytes())),
+        wrapped: time(
+            20_000,
+            || (),
+            |()| black_box(&text[..]).parse::<cablefinch::Guid>().is_ok(),
+        ),
     });
 }
 
 fn main() {
-    let mut table = Table { wanted: std::env::args().skip(1).collect(), missed: 0 };
-    println!("| name | bytes | Rust | port | Rust / port | bar |");
-    println!("|---|---|---|---|---|---|");
+    let mut table = Table {
+        wanted: std::env::args().skip(1).collect(),
+        missed: 0,
+    };
+    println!("| name | bytes | Rust | port | Rust / port | bar | crate | Rust / crate |");
+    println!("|---|---|---|---|---|---|---|---|");
     checksums(&mut table);
     packets(&mut table);
     rowsets(&mut table);
     guids(&mut table);
     let (from, mut to) = (noise(1 << 26), vec![0u8; 1 << 26]);
     let copy = time(1, || (), |()| to.copy_from_slice(black_box(&from)));
-    println!("\nfor scale: memcpy of 64 MiB {}, {:.1} GB/s", scaled(copy), (1u64 << 26) as f64 / copy);
+    println!(
+        "\nfor scale: memcpy of 64 MiB {}, {:.1} GB/s",
+        scaled(copy),
+        (1u64 << 26) as f64 / copy
+    );
     match isal() {
         // SAFETY: the pointer is the vector's, with its length.
         Some(sum) => {
-            let summed = time(1, || (), |()| unsafe { sum(0, from.as_ptr(), from.len() as u64) });
-            println!("for scale: ISA-L's CRC-64 of 64 MiB {}, {:.1} GB/s", scaled(summed), (1u64 << 26) as f64 / summed);
+            let summed = time(
+                1,
+                || (),
+                |()| unsafe { sum(0, from.as_ptr(), from.len() as u64) },
+            );
+            println!(
+                "for scale: ISA-L's CRC-64 of 64 MiB {}, {:.1} GB/s",
+                scaled(summed),
+                (1u64 << 26) as f64 / summed
+            );
         }
         None => println!("for scale: ISA-L is not at hand"),
     }

@@ -28,7 +28,13 @@ pub(crate) fn part(input: &[u8], parts: &[u64], index: usize) -> Outcome {
 pub(crate) fn part_checksum(input: &[u8], parts: &[u64], index: usize) -> u64 {
     // SAFETY: the pointers and lengths of two slices, only read.
     unsafe {
-        raw::cablefinch_part_checksum(input.as_ptr(), input.len(), parts.as_ptr(), parts.len(), index)
+        raw::cablefinch_part_checksum(
+            input.as_ptr(),
+            input.len(),
+            parts.as_ptr(),
+            parts.len(),
+            index,
+        )
     }
 }
 

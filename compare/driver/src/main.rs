@@ -10,7 +10,9 @@ mod text;
 use face::Outcome;
 use std::fmt::Write as _;
 use std::io;
-use text::{BadCase, answer_lines, hex_or_dash, narrow, number, read_bytes, read_id, read_words, words};
+use text::{
+    BadCase, answer_lines, hex_or_dash, narrow, number, read_bytes, read_id, read_words, words,
+};
 
 const NULL: u64 = u64::MAX;
 const FILL: u8 = 0xa5;
@@ -32,14 +34,26 @@ fn answer(line: &[u8]) -> Answer {
         (b"guid-parts", [id]) => guid_parts(&read_id(id)?),
         (b"packet", [limit, ceiling, room, bytes]) => {
             let ceiling = narrow(number(ceiling)?, u64::from(u32::MAX))? as u32;
-            packet(number(limit)?, Some(ceiling), number(room)?, &read_bytes(bytes)?)
+            packet(
+                number(limit)?,
+                Some(ceiling),
+                number(room)?,
+                &read_bytes(bytes)?,
+            )
         }
         (b"packet-default", [limit, room, bytes]) => {
             packet(number(limit)?, None, number(room)?, &read_bytes(bytes)?)
         }
         (b"packet-write", [kind, flags, id, room, area, parts]) => {
             let (kind, flags, id) = header(kind, flags, id)?;
-            packet_write(kind, flags, &id, number(room)?, &read_bytes(area)?, &read_words(parts)?)
+            packet_write(
+                kind,
+                flags,
+                &id,
+                number(room)?,
+                &read_bytes(area)?,
+                &read_words(parts)?,
+            )
         }
         (b"packet-size", [kind, flags, id, area, parts]) => {
             let (kind, _, _) = header(kind, flags, id)?;
@@ -74,9 +88,10 @@ fn answer(line: &[u8]) -> Answer {
             Ok(or_refusal(&outcome, || format!("ok {}", outcome.count)))
         }
         (b"value", [at, bytes]) => value(number(at)?, &read_bytes(bytes)?),
-        (b"plain", [bytes]) => {
-            Ok(format!("ok {}", u8::from(face::is_plain(&read_bytes(bytes)?))))
-        }
+        (b"plain", [bytes]) => Ok(format!(
+            "ok {}",
+            u8::from(face::is_plain(&read_bytes(bytes)?))
+        )),
         _ => Err(BadCase),
     }
 }
@@ -84,7 +99,11 @@ fn answer(line: &[u8]) -> Answer {
 // The words of a case.
 
 fn header(kind: &[u8], flags: &[u8], id: &[u8]) -> Result<(u64, u16, [u8; 16]), BadCase> {
-    Ok((narrow(number(kind)?, 2)?, narrow(number(flags)?, 0xffff)? as u16, read_id(id)?))
+    Ok((
+        narrow(number(kind)?, 2)?,
+        narrow(number(flags)?, 0xffff)? as u16,
+        read_id(id)?,
+    ))
 }
 
 /// A lent table of so many words, or as many as can matter.
@@ -122,7 +141,11 @@ fn refusal(outcome: &Outcome, consumed: bool) -> String {
 
 fn or_refusal(outcome: &Outcome, accepted: impl FnOnce() -> String) -> String {
     assert!(outcome.kind == 0 || outcome.kind == 2);
-    if outcome.kind == face::ACCEPTED { accepted() } else { refusal(outcome, false) }
+    if outcome.kind == face::ACCEPTED {
+        accepted()
+    } else {
+        refusal(outcome, false)
+    }
 }
 
 fn mark(mut text: String, kept: bool) -> String {
@@ -155,11 +178,17 @@ fn guid_print(id: &[u8]) -> Answer {
     let outcome = face::guid_print(id, &mut out);
     assert!(outcome.kind == face::ACCEPTED);
     let (text, rest) = out.split_at(outcome.count as usize);
-    Ok(mark(format!("ok {}", String::from_utf8_lossy(text)), bytes_kept(rest)))
+    Ok(mark(
+        format!("ok {}", String::from_utf8_lossy(text)),
+        bytes_kept(rest),
+    ))
 }
 
 fn wire(words: &[u64]) -> Vec<u8> {
-    words.iter().flat_map(|&word| (word as u32).to_le_bytes()).collect()
+    words
+        .iter()
+        .flat_map(|&word| (word as u32).to_le_bytes())
+        .collect()
 }
 
 fn guid_read(text: &[u8]) -> Answer {
@@ -223,7 +252,9 @@ fn packet(limit: u64, ceiling: Option<u32>, room: u64, input: &[u8]) -> Answer {
 
 /// At most so many bytes can be written of an area's stretches.
 fn most(area: &[u8], fixed: u64, lengths: impl Iterator<Item = u64>) -> u64 {
-    lengths.filter(|&length| length <= area.len() as u64).fold(fixed, u64::saturating_add)
+    lengths
+        .filter(|&length| length <= area.len() as u64)
+        .fold(fixed, u64::saturating_add)
 }
 
 fn written(outcome: &Outcome, out: &[u8]) -> String {
@@ -231,11 +262,18 @@ fn written(outcome: &Outcome, out: &[u8]) -> String {
         return mark(or_refusal(outcome, String::new), bytes_kept(out));
     }
     let (bytes, rest) = out.split_at(outcome.count as usize);
-    mark(format!("ok {} {}", outcome.count, hex_or_dash(bytes)), bytes_kept(rest))
+    mark(
+        format!("ok {} {}", outcome.count, hex_or_dash(bytes)),
+        bytes_kept(rest),
+    )
 }
 
 fn packet_write(kind: u64, flags: u16, id: &[u8], room: u64, area: &[u8], parts: &[u64]) -> Answer {
-    let most = most(area, 64 + 6 * parts.len() as u64, parts.iter().skip(1).step_by(2).copied());
+    let most = most(
+        area,
+        64 + 6 * parts.len() as u64,
+        parts.iter().skip(1).step_by(2).copied(),
+    );
     let mut out = vec![FILL; room.min(most) as usize];
     let outcome = face::encode(kind, flags, id, area, parts, &mut out);
     Ok(written(&outcome, &out))
@@ -245,7 +283,10 @@ fn part(index: u64, input: &[u8], parts: &[u64]) -> Answer {
     let index = index as usize;
     let [offset, length, ..] = face::part(input, parts, index).values;
     let bytes = hex_or_dash(&input[offset as usize..][..length as usize]);
-    Ok(format!("ok {bytes} {:016x}", face::part_checksum(input, parts, index)))
+    Ok(format!(
+        "ok {bytes} {:016x}",
+        face::part_checksum(input, parts, index)
+    ))
 }
 
 // Rowsets.
@@ -263,7 +304,11 @@ fn rowset(rows: u64, values: u64, input: &[u8]) -> Answer {
     let [row_count, value_count, ..] = outcome.values;
     let (rows, rows_rest) = rows.split_at(row_count as usize);
     let (values, values_rest) = values.split_at(5 * value_count as usize);
-    let text = format!("ok {row_count} {value_count} {} {}", words(rows), words(values));
+    let text = format!(
+        "ok {row_count} {value_count} {} {}",
+        words(rows),
+        words(values)
+    );
     Ok(mark(text, words_kept(rows_rest) && words_kept(values_rest)))
 }
 
@@ -279,6 +324,9 @@ fn value(at: u64, input: &[u8]) -> Answer {
     let outcome = face::read_value(input, at as usize);
     Ok(or_refusal(&outcome, || {
         let [id, kind, aggregate, word, length, ..] = outcome.values;
-        format!("ok {id} {kind} {aggregate} {word} {length} {}", outcome.count)
+        format!(
+            "ok {id} {kind} {aggregate} {word} {length} {}",
+            outcome.count
+        )
     }))
 }

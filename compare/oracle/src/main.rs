@@ -3,8 +3,8 @@
 //! answer is worked out here. Where the Rust has none (short room, a table that breaks a rule, the
 //! plain-form check, text that is no UTF-8, a start past the end), the answer is `skip`.
 
-// Copied here by the build, from compare/text.rs.
 #[allow(dead_code)]
+#[path = "../../text.rs"]
 mod text;
 
 use std::io;
@@ -16,7 +16,8 @@ use oracle::crc64::{self, Crc64};
 use oracle::guid::Guid;
 use oracle::wire::{self, MaybeRow, UnversionedValue, Value, ValueType, WireError};
 use text::{
-    BadCase, answer_lines, commas, hex_or_dash, narrow, number, read_bytes, read_id, read_words, words, zeros,
+    BadCase, answer_lines, commas, hex_or_dash, narrow, number, read_bytes, read_id, read_words,
+    words, zeros,
 };
 
 const NULL: u64 = u64::MAX;
@@ -30,14 +31,14 @@ enum Without {
 type Outcome = Result<String, Without>;
 
 fn main() -> io::Result<()> {
-    answer_lines(|line| {
-        match catch_unwind(AssertUnwindSafe(|| answer(line))) {
+    answer_lines(
+        |line| match catch_unwind(AssertUnwindSafe(|| answer(line))) {
             Ok(Ok(text)) => text,
             Ok(Err(Without::BadCase)) => "bad case".to_string(),
             Ok(Err(Without::Skip)) => "skip".to_string(),
             Err(_) => "panicked".to_string(),
-        }
-    })
+        },
+    )
 }
 
 fn answer(line: &[u8]) -> Outcome {
@@ -310,7 +311,10 @@ fn part(index: u64, bytes: &[u8], parts: &[u8]) -> Outcome {
     };
     let part = part_of(&input, entry[0], entry[1])?;
     let sum = packet::part_checksum(part.as_ref());
-    Ok(format!("ok {} {sum:016x}", hex_or_dash(&part.unwrap_or_default())))
+    Ok(format!(
+        "ok {} {sum:016x}",
+        hex_or_dash(&part.unwrap_or_default())
+    ))
 }
 
 // Rowsets.
