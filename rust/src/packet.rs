@@ -30,6 +30,9 @@ const FIRST_ROOM: usize = 16;
 /// The length word of a null part in a table.
 const NULL: u64 = u64::MAX;
 
+/// The words of a part in a table.
+const WIDTH: usize = 2;
+
 /// A part: its bytes, or `None` where it is null.
 pub type Part<'a> = Option<&'a [u8]>;
 
@@ -106,7 +109,7 @@ impl<'a> Parts<'a> {
     /// How many parts there are, null ones among them.
     pub fn len(&self) -> usize {
         match &self.0 {
-            Repr::Table { words, .. } => words.len() / 2,
+            Repr::Table { words, .. } => words.len() / WIDTH,
             Repr::Lent(list) => list.len(),
             Repr::Owned(list) => list.len(),
         }
@@ -121,8 +124,8 @@ impl<'a> Parts<'a> {
     pub fn get(&self, index: usize) -> Option<Part<'a>> {
         match &self.0 {
             Repr::Table { input, words } => {
-                let at = index.checked_mul(2)?;
-                match words.get(at..at.checked_add(2)?)? {
+                let at = index.checked_mul(WIDTH)?;
+                match words.get(at..at.checked_add(WIDTH)?)? {
                     [0, NULL] => Some(None),
                     [offset, length] => Some(Some(table::stretch(input, *offset, *length))),
                     _ => None,
@@ -313,7 +316,7 @@ impl PacketError {
                 actual: c,
             },
             8 => Self::MessageTooLarge { size: a, limit: b },
-            17 => Self::no_room(count(b), if a == 4 { 1 } else { 16 }),
+            17 => Self::no_room(count(b), if a == 4 { 1 } else { 8 * WIDTH }),
             number => Self::Other(number),
         }
     }
@@ -465,7 +468,7 @@ impl Decoder {
         Ok(header.map(|header| {
             let words = self
                 .words
-                .get(..header.parts.saturating_mul(2))
+                .get(..header.parts.saturating_mul(WIDTH))
                 .unwrap_or_default();
             header.over(input, Cow::Borrowed(words))
         }))
@@ -474,12 +477,12 @@ impl Decoder {
     fn read(&mut self, input: &[u8], limit: u64, ceiling: u32) -> Result<Option<Header>, Refusal> {
         if self.words.is_empty() {
             // Where there is no memory for it, 17 says so below.
-            table::grow(&mut self.words, 2 * FIRST_ROOM);
+            table::grow(&mut self.words, WIDTH * FIRST_ROOM);
         }
         let mut outcome = sys::decode_with(input, limit, ceiling, &mut self.words);
         if outcome.number == 17 {
             let [_, needed, ..] = outcome.values;
-            if table::grow(&mut self.words, count(needed).saturating_mul(2)) {
+            if table::grow(&mut self.words, count(needed).saturating_mul(WIDTH)) {
                 outcome = sys::decode_with(input, limit, ceiling, &mut self.words);
             }
         }
@@ -540,7 +543,7 @@ pub fn decode_with(
     let mut decoder = Decoder::new();
     let header = decoder.read(input, max_message_size, max_part_count)?;
     Ok(header.map(|header| {
-        decoder.words.truncate(header.parts.saturating_mul(2));
+        decoder.words.truncate(header.parts.saturating_mul(WIDTH));
         header.over(input, Cow::Owned(decoder.words))
     }))
 }
@@ -562,10 +565,10 @@ fn measure<'p>(parts: &'p Parts<'_>) -> Result<Laid<'p>, PacketError> {
     }
     let mut words = Vec::new();
     if words
-        .try_reserve_exact(parts.len().saturating_mul(2))
+        .try_reserve_exact(parts.len().saturating_mul(WIDTH))
         .is_err()
     {
-        return Err(PacketError::no_room(parts.len(), 16));
+        return Err(PacketError::no_room(parts.len(), 8 * WIDTH));
     }
     let mut longest: &[u8] = &[];
     for part in parts {
@@ -605,7 +608,10 @@ fn lay<'p>(parts: &'p Parts<'_>, mut laid: Laid<'p>) -> Result<Laid<'p>, PacketE
     if area.try_reserve_exact(size).is_err() {
         return Err(PacketError::no_room(size, 1));
     }
-    for (part, entry) in parts.iter().zip(laid.words.to_mut().chunks_exact_mut(2)) {
+    for (part, entry) in parts
+        .iter()
+        .zip(laid.words.to_mut().chunks_exact_mut(WIDTH))
+    {
         if let (Some(bytes), [offset, _]) = (part, entry) {
             *offset = area.len() as u64;
             area.extend_from_slice(bytes);
