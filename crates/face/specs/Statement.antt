@@ -6,7 +6,7 @@ use mathlib.Core.Bool.{Bool}
 use mathlib.Core.List.{List, [], _∷_}
 use lib.Bits.{bitAnd}
 use lib.ListN.{length}
-use Rattle.words.specs.Answer.{Answer, accepted, refuse}
+use Rattle.words.specs.Answer.{Answer, accepted, refuse, afterwards}
 use Rattle.words.specs.Buffer.{fitted}
 use Rattle.words.specs.Decide.{pick, decide, _⇒_, _<?_, _=?_}
 use Rattle.crc64.specs.Polynomial.{fold}
@@ -14,17 +14,15 @@ use Rattle.crc64.specs.Table.{swapped}
 use Rattle.guid.specs.declared.Guid.{Guid}
 use Rattle.guid.specs.Guid.{wireBytes, guidAt, wordsOf, firstHalf, secondHalf, isNull}
 use Rattle.guid.specs.Text.{textOf, printing, reading as readingText}
-use Rattle.packet.specs.Reading.{reading, room, tableAfter}
+use Rattle.packet.specs.Reading.{reading, room, entries}
 use Rattle.packet_table.specs.Checks.{validating, sizing}
 use Rattle.packet_table.specs.Entries.{lentAt, offsetAt}
 use Rattle.packet_table.specs.Wire.{packetBytes, partsOf}
-use Rattle.packet_write.specs.Writing.{writing, outAfter}
+use Rattle.packet_write.specs.Writing.{writing}
 use Rattle.wire_value.specs.Layout.{countAt, rowWords, valueWords, rowsetBytes}
 use Rattle.wire_value.specs.ValueOrder.{valueReading}
 use Rattle.wire.specs.Reading as rowset
-use Rattle.wire.specs.Statement.{filled}
 use Rattle.wire_table.specs.Writing as rowsetWriting
-use Rattle.wire_write.specs.Encode.{afterwards}
 use Rattle.face.specs.declared.outcome.Outcome.{Outcome}
 use Rattle.face.specs.Outcome.{outcome}
 
@@ -59,7 +57,7 @@ TellsNull id r = r ≡ isNull (guidAt id 0)
 
 abbrev pub Decodes : List ℕ → ℕ → ℕ → List ℕ → Outcome → List ℕ → Type 0
 Decodes s limit ceiling table r after =
-    (r ≡ outcome (reading s limit ceiling (room table))) × (after ≡ tableAfter (reading s limit ceiling (room table)) s table)
+    (r ≡ outcome (reading s limit ceiling (room table))) × (after ≡ afterwards (reading s limit ceiling (room table)) (entries s) table)
 
 -- a type that there is not is refused by 2, before all else
 abbrev pub typed : ℕ → Answer → Answer
@@ -71,7 +69,7 @@ encoding type area table given = typed type (writing type area table given)
 abbrev pub Encodes : ℕ → ℕ → List ℕ → List ℕ → List ℕ → List ℕ → Outcome → List ℕ → Type 0
 Encodes type flags id area table out r after =
     (r ≡ outcome (encoding type area table (length out)))
-    × (after ≡ outAfter (encoding type area table (length out)) (packetBytes type flags (wordsOf (guidAt id 0)) (partsOf area table)) out)
+    × (after ≡ afterwards (encoding type area table (length out)) (packetBytes type flags (wordsOf (guidAt id 0)) (partsOf area table)) out)
 
 abbrev pub Measures : ℕ → List ℕ → List ℕ → Outcome → Type 0
 Measures type area table r = r ≡ outcome (typed type (sizing area table type))
@@ -94,8 +92,8 @@ Contains flags other r = r ≡ (bitAnd flags other =? other)
 abbrev pub DecodesRowset : List ℕ → List ℕ → List ℕ → Outcome → List ℕ → List ℕ → Type 0
 DecodesRowset s rows values r rows′ values′ =
     (r ≡ outcome (rowset.reading s (length rows) (length values)))
-    × (rows′ ≡ filled (rowset.reading s (length rows) (length values)) (rowWords s (countAt s 0) 8) rows)
-    × (values′ ≡ filled (rowset.reading s (length rows) (length values)) (valueWords s (countAt s 0) 8) values)
+    × (rows′ ≡ afterwards (rowset.reading s (length rows) (length values)) (rowWords s (countAt s 0) 8) rows)
+    × (values′ ≡ afterwards (rowset.reading s (length rows) (length values)) (valueWords s (countAt s 0) 8) values)
 
 abbrev pub EncodesRowset : List ℕ → List ℕ → List ℕ → List ℕ → Outcome → List ℕ → Type 0
 EncodesRowset area rows values before r after =

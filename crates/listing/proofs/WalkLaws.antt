@@ -6,7 +6,7 @@ use Prim.Native.Nat.{ℕ, _+_, _*_, _-_, _<_, _≤_, min}
 use native.Mathlib.Omega.{arith}
 use borrow.Author.Tests.{lt-ltb, le-ltb, le-leb, lt-leb, ltb-false}
 use lib.ListN.{length, getD, drop, length-append, length-drop, List·getD-append}
-use Rattle.words.specs.Answer.{Answer, accepted, more, refused, refuse}
+use Rattle.words.specs.Answer.{Answer, accepted, more, refused, refuse, afterwards}
 use Rattle.words.specs.Buffer.{over, stretch}
 use Rattle.words.specs.Decide.{pick, _<?_, _⇒_, decide}
 use Rattle.words.proofs.LentLaws.{tail, tail-is-drop}
@@ -15,7 +15,7 @@ use Rattle.packet.specs.declared.Decoded.the-variants.{Read, More, Refused}
 use Rattle.packet.specs.declared.Packet.{Packet}
 use Rattle.packet.specs.declared.PacketError.{PacketError}
 use Rattle.packet.specs.Layout.{mostParts, hasVariableHeader, type, count, fields, whole, takenBefore}
-use Rattle.packet.specs.Reading.{order, reading, room, entries, entriesFrom, tableAfter}
+use Rattle.packet.specs.Reading.{order, reading, room, entries, entriesFrom}
 use Rattle.packet.specs.Paper.{numberOf, fieldsOf}
 use Rattle.packet.specs.Paper as Packet
 use Rattle.packet.specs.Statement.{Decodes}
@@ -109,7 +109,7 @@ module _ (input : List ℕ) (offset : ℕ) (table text : List ℕ) where
       unfolding tableThen
       table-is r d =
           rw (le-ltb (length text) textRoom fits, lt-leb (length input) offset some)
-          (at-rest r d .tables ∙ ap (λ (a : Answer). tableAfter a (drop offset input) table) (at-rest r d .answer))
+          (at-rest r d .tables ∙ ap (λ (a : Answer). afterwards a (entries (drop offset input)) table) (at-rest r d .answer))
 
       -- an answer of the reader and its lines
       listed : (r : Decoded) (d : Read-as r) (result : Listed) {text′ : List ℕ}

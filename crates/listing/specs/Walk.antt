@@ -5,9 +5,9 @@ use mathlib.Core.List.{List, [], _∷_, _++_}
 use lib.Dec.{leb}
 use lib.ListN.{length, drop, getD}
 use Rattle.words.specs.Decide.{_<?_, _⇒_, decide}
-use Rattle.words.specs.Answer.{Answer, accepted, more, refused, refuse}
+use Rattle.words.specs.Answer.{Answer, accepted, more, refused, refuse, afterwards}
 use Rattle.words.specs.Buffer.{over}
-use Rattle.packet.specs.Reading.{reading, room, entries, tableAfter}
+use Rattle.packet.specs.Reading.{reading, room, entries}
 use Rattle.listing.specs.Text.{packetLine, partLines, endLine, moreLine, refusedLine}
 
 -- a text buffer of so many bytes takes every packet: a first line of at most 128 bytes, and for each of 2,048 parts one of at most 47
@@ -47,7 +47,7 @@ module _ (input : List ℕ) (offset : ℕ) (table : List ℕ) (given : ℕ) wher
 
   -- what the part table holds afterwards
   unfoldable pub tableThen : List ℕ
-  tableThen = decide (given <? textRoom ⇒ table ∷ leb (length input) offset ⇒ table ∷ []) (tableAfter answer rest table)
+  tableThen = decide (given <? textRoom ⇒ table ∷ leb (length input) offset ⇒ table ∷ []) (afterwards answer (entries rest) table)
 
 -- what the text buffer holds after a step
 abbrev pub textThen : Step → List ℕ → List ℕ

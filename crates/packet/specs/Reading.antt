@@ -80,9 +80,3 @@ entriesFrom s n i (suc k) = entry s n i ++ entriesFrom s n (i + 1) k
 
 abbrev pub entries : List ℕ → List ℕ
 entries s = entriesFrom s (count s) 0 (count s)
-
--- what the table holds after an answer
-abbrev pub tableAfter : Answer → List ℕ → List ℕ → List ℕ
-tableAfter (accepted consumed fields) s table = over (entries s) table
-tableAfter more s table = table
-tableAfter (refused number values consumed) s table = table

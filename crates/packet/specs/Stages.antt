@@ -5,7 +5,7 @@ use mathlib.Core.Bool.{Bool, true, false, not, _&&_}
 use mathlib.Core.List.{List}
 use mathlib.Core.Path.{_≡_}
 use lib.ListN.{length}
-use Rattle.words.specs.Answer.{Answer, accepted, more}
+use Rattle.words.specs.Answer.{Answer, accepted, more, afterwards}
 use Rattle.words.specs.Decide.{decide, _=?_}
 use Rattle.words.specs.Buffer.{stretch}
 use Rattle.crc64.specs.Polynomial.{checksum}
@@ -21,7 +21,7 @@ use Rattle.packet.specs.declared.Parts.{Parts}
 use Rattle.packet.specs.declared.Parts.the-variants.{Failing, Good}
 use Rattle.packet.specs.declared.Decoded.{Decoded}
 use Rattle.packet.specs.Layout.{nullSize, largestPart, fields, size, takenBefore, partSum, start, whole, part}
-use Rattle.packet.specs.Reading.{fails, tooLarge, firstTooLarge, partFails, firstFailing, order, room as roomOf, tableAfter}
+use Rattle.packet.specs.Reading.{fails, tooLarge, firstTooLarge, partFails, firstFailing, order, room as roomOf, entries}
 use Rattle.packet.specs.Paper.{refusal, fieldsOf, paper}
 
 -- `lines` lines of the order from line `from` on, and then `rest`
@@ -78,4 +78,4 @@ PartsStage s n Good = firstFailing s n ≡ n
 -- a packet with a variable header: all lines from 8 on, and what the table then holds
 pub record BodyStage (s : List ℕ) (n limit : ℕ) (table : List ℕ) (r : Decoded) (after : List ℕ) : Type 0 where
   pub answer : (ceiling : ℕ) → linesOf s n limit ceiling (roomOf table) 6 8 (accepted (whole s n) (fields s)) ≡ paper r
-  pub tables : after ≡ tableAfter (paper r) s table
+  pub tables : after ≡ afterwards (paper r) (entries s) table

@@ -17,9 +17,9 @@ use Rattle.packet.specs.declared.PacketError.{PacketError}
 use Rattle.packet_table.specs.Wire.{sealed, fixedFields, body, packetBytes, packetSize, partsOf}
 use Rattle.packet_table.specs.Checks.{checks, sizing}
 use Rattle.packet_table.proofs.WireLaws.{length-parts}
-use Rattle.packet_table.proofs.CheckLaws.{isAccepted, decided, checks-pass, refusal-refuses, sized}
+use Rattle.packet_table.proofs.CheckLaws.{decided, checks-pass, refusal-refuses, sized}
 use Rattle.words.specs.Filling.{Filling}
-use Rattle.packet_write.specs.Writing.{roomCheck, writing, outAfter}
+use Rattle.packet_write.specs.Writing.{roomCheck, writing}
 use Rattle.packet_write.proofs.FillingLaws.{opens}
 use Rattle.packet_write.proofs.PieceLaws.{length-sealed, length-fixed, length-packet}
 
@@ -57,12 +57,6 @@ module _ (type flags w0 w1 w2 w3 : ℕ) (area table before : List ℕ)
         let same : header ++ rest ≡ header ++ body (partsOf area table) = ap (λ (b : Bool). header ++ pick b (body (partsOf area table)) []) some in
         let joined : header ++ body (partsOf area table) ≡ packetBytes type flags (w0 ∷ w1 ∷ w2 ∷ w3 ∷ []) (partsOf area table) = sym same ∙ sym packet-is in
         subst (λ (w : List ℕ). Filling w (body (partsOf area table)) before now 36) joined (opens header (body (partsOf area table)) 36 (rw joined fits) header-length written)
-
--- a refusal leaves the output
-pub output-kept : (answer : Answer) (written out : List ℕ) → isAccepted answer ≡ false → out ≡ outAfter answer written out
-output-kept (accepted n fields) written out bad = absurd (let z : _≡_ {A = ℕ} 0 1 = cc in omega arith)
-output-kept more written out bad = refl
-output-kept (refused number values consumed) written out bad = refl
 
 -- the answers, from that of `encoded_size`
 module _ (type : ℕ) (area table : List ℕ) (given : ℕ) where

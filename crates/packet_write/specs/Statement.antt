@@ -3,6 +3,7 @@ use Prim.Native.Nat.{ℕ}
 use mathlib.Core.List.{List}
 use mathlib.Core.Path.{_≡_}
 use lib.ListN.{length}
+use Rattle.words.specs.Answer.{afterwards}
 use Rattle.guid.specs.declared.Guid.{Guid}
 use Rattle.packet.specs.declared.PacketType.{PacketType}
 use Rattle.packet.specs.declared.PacketFlags.{PacketFlags}
@@ -10,13 +11,14 @@ use Rattle.packet.specs.Paper.{typeNumber}
 use Rattle.packet_table.specs.Wire.{packetBytes, partsOf}
 use Rattle.packet_write.specs.declared.Encoded.{Encoded}
 use Rattle.packet_write.specs.Paper.{paper, idWords}
-use Rattle.packet_write.specs.Writing.{writing, outAfter}
+use Rattle.packet_write.specs.Writing.{writing}
 
 -- the bytes of a packet with the parts that a table names in an area
 abbrev pub bytesFor : PacketType → PacketFlags → Guid → List ℕ → List ℕ → List ℕ
 bytesFor type flags id area table = packetBytes (typeNumber type) (flags .0) (idWords id) (partsOf area table)
 
--- writing answers r, and the output that held `out` holds `after`
+-- writing answers r, and the output that held `out` holds `after`: document 01, "Writing fills the output from its front, reports its
+-- bytes and leaves the rest."
 pub record Encodes (type : PacketType) (flags : PacketFlags) (id : Guid) (area table out : List ℕ) (r : Encoded) (after : List ℕ) : Type 0 where
   pub answer : paper r ≡ writing (typeNumber type) area table (length out)
-  pub output : after ≡ outAfter (paper r) (bytesFor type flags id area table) out
+  pub output : after ≡ afterwards (paper r) (bytesFor type flags id area table) out

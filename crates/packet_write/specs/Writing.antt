@@ -1,10 +1,8 @@
--- Writing, from document 01: "Writing order: 18, 3, 4, 17." "Writing fills the output from its front, reports its bytes and leaves
--- the rest." Assumes nothing.
+-- Writing, from document 01: "Writing order: 18, 3, 4, 17." Assumes nothing.
 use Prim.Native.Nat.{ℕ}
 use mathlib.Core.List.{List, [], _∷_, _++_}
 use Rattle.words.specs.Decide.{_<?_, Line, _⇒_, decide}
-use Rattle.words.specs.Answer.{Answer, accepted, more, refused, refuse}
-use Rattle.words.specs.Buffer.{over}
+use Rattle.words.specs.Answer.{Answer, accepted, refuse}
 use Rattle.packet_table.specs.Wire.{packetSize, partsOf}
 use Rattle.packet_table.specs.Checks.{checks}
 
@@ -17,9 +15,3 @@ unfoldable pub writing : ℕ → List ℕ → List ℕ → ℕ → Answer
 writing type area table given =
     let needed = packetSize type (partsOf area table) in
     decide (checks area table ++ roomCheck needed given) (accepted needed [])
-
--- what the output holds after an answer
-abbrev pub outAfter : Answer → List ℕ → List ℕ → List ℕ
-outAfter (accepted n fields) written out = over written out
-outAfter more written out = out
-outAfter (refused number values consumed) written out = out

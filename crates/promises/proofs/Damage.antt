@@ -10,7 +10,7 @@ use native.Mathlib.Omega.{arith}
 use borrow.Author.Tests.{ltb-false, le-ltb, lt-ltb, ne-eqb}
 use lib.ListN.{length, take, drop}
 use Rattle.words.specs.Word.{word, Bytes}
-use Rattle.words.specs.Answer.{Answer, accepted, more, refused, refuse}
+use Rattle.words.specs.Answer.{Answer, accepted, more, refused, refuse, NotTaken}
 use Rattle.words.specs.Buffer.{stretch}
 use Rattle.words.specs.Decide.{pick, _=?_, _≠?_, _<?_, decide, first}
 use Rattle.words.proofs.DecideLaws.{first-none, first-at, first-same}
@@ -18,7 +18,6 @@ use Rattle.crc64.specs.Polynomial.{checksum}
 use Rattle.crc64.specs.Damage.{Damaged}
 use Rattle.packet.specs.Layout.{packetSignature, nullSize, largestPart, mostParts, hasVariableHeader, headers, signature, type, count, fixedSum, fields, size, taken, takenBefore, partSum, variable, variableSum, start, whole, part}
 use Rattle.packet.specs.Paper.{paper, fieldsOf}
-use Rattle.promises.specs.TablesKeep.{NotTaken}
 use Rattle.promises.proofs.TablesKeep.{packet-tables-keep}
 use Rattle.packet.specs.Reading.{room, fails, isNull, tooLarge, partFails, firstTooLarge, firstFailing, order, reading}
 use Rattle.packet.proofs.SizeLaws.{taken-below}

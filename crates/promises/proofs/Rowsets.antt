@@ -10,11 +10,11 @@ use Rattle.words.specs.Decide.{pick, _<?_}
 use Rattle.wire_value.specs.Layout.{maxSize, countAt, rowsetBytes}
 use Rattle.wire_accept.specs.Accepts.{accepted-good}
 use Rattle.wire.specs.Plain.{accepts, plainRows, plain}
-use Rattle.wire.proofs.RowLaws.{row-word, row-entries, refusal-leaves}
+use Rattle.wire.proofs.RowLaws.{row-word, row-entries}
 use Rattle.wire.proofs.AlikeLaws.{read-alike}
 use Rattle.wire_round.proofs.RowsetRound.{round-trip}
 use Rattle.wire_round.proofs.PlainRound.{written-plain}
-use Rattle.promises.specs.Rowsets.{RowsetRoundTrip, RowsInOrder, IgnoredBytes, PlainExactly, WrittenIsPlain, RowsetTablesKeep, RowsetEncodeThenDecode}
+use Rattle.promises.specs.Rowsets.{RowsetRoundTrip, RowsInOrder, IgnoredBytes, PlainExactly, WrittenIsPlain, RowsetEncodeThenDecode}
 
 pub rowset-round-trip : RowsetRoundTrip
 rowset-round-trip = round-trip
@@ -42,9 +42,6 @@ plain-exactly s = (
 
 pub written-is-plain : WrittenIsPlain
 written-is-plain = written-plain
-
-pub rowset-tables-keep : RowsetTablesKeep
-rowset-tables-keep = refusal-leaves
 
 pub rowset-encode-then-decode : RowsetEncodeThenDecode
 rowset-encode-then-decode area rows values out n after words told =

@@ -7,12 +7,9 @@ use mathlib.Core.Path.{_≡_}
 use lib.ListN.{length, getD, take}
 use Rattle.words.specs.Buffer.{stretch}
 use Rattle.wire_value.specs.Layout.{nullMark, maxSize, valuesIn, countAt, nextRows, valueCount, entries, rowWords, valueWords, rowsetBytes}
-use Rattle.wire_value.specs.declared.error.WireError.{WireError}
 use Rattle.wire.specs.Reading.{reading}
 use Rattle.wire.specs.Plain.{accepts, plainRows, plain}
 use Rattle.wire.specs.Alike.{Alike}
-use Rattle.wire.specs.Statement.{Decodes}
-use Rattle.wire.specs.declared.rowset.Decoded.the-variants.{Refused}
 use Rattle.wire_write.specs.declared.write.Encoded.the-variants.{Written}
 use Rattle.wire_write.specs.Encode.{Encodes}
 use Rattle.wire_round.specs.Tables.{GoodTables}
@@ -53,11 +50,6 @@ PlainExactly =
 abbrev pub WrittenIsPlain : Type 0
 WrittenIsPlain =
     (area rows values : List ℕ) → GoodTables area rows values → length (rowsetBytes area rows values) ≤ maxSize → plain (rowsetBytes area rows values) ≡ true
-
--- A refusal changes neither table.
-abbrev pub RowsetTablesKeep : Type 0
-RowsetTablesKeep =
-    (s rows values rows′ values′ : List ℕ) (refusal : WireError) → Decodes s rows values (Refused refusal) rows′ values′ → (rows′ ≡ rows) × (values′ ≡ values)
 
 -- The same from what the writer says: where `encode_rowset` has answered, by its statement `Encodes`, that it wrote n bytes, those
 -- bytes are read back as the rows and values that were given, and have the plain form. (A table's words are of 64 bits.)

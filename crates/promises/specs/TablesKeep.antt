@@ -1,22 +1,28 @@
 -- Demand 1, its second sentence: a refusal or need-more changes no lent table or buffer. The statements are those that the
 -- contracts of the functions cite by name. Assumes nothing.
-use Prim.Native.Nat.{ℕ, _*_, _≤_}
-use mathlib.Core.Bool.{Bool, true, false}
+use Prim.Native.Nat.{ℕ, _*_}
 use mathlib.Core.List.{List}
 use mathlib.Core.Path.{_≡_}
-use lib.ListN.{length, drop}
-use Rattle.words.specs.Answer.{Answer, accepted, more, refused}
+use lib.ListN.{drop}
+use Rattle.words.specs.Answer.{NotTaken}
+use Rattle.guid.specs.declared.Guid.{Guid}
+use Rattle.guid.specs.declared.Printed.the-variants as printed
+use Rattle.guid.specs.Statement.{Prints}
 use Rattle.packet.specs.declared.Decoded.{Decoded}
+use Rattle.packet.specs.declared.PacketType.{PacketType}
+use Rattle.packet.specs.declared.PacketFlags.{PacketFlags}
+use Rattle.packet.specs.declared.PacketError.{PacketError}
 use Rattle.packet.specs.Layout.{count}
 use Rattle.packet.specs.Reading.{entryWords}
 use Rattle.packet.specs.Paper.{paper}
 use Rattle.packet.specs.Statement.{Decodes}
-
--- need-more or a refusal
-abbrev pub NotTaken : Answer → Type 0
-NotTaken (accepted n f) = ⊥
-NotTaken more = Unit {0}
-NotTaken (refused number values consumed) = Unit {0}
+use Rattle.packet_write.specs.declared.Encoded.the-variants as packets
+use Rattle.packet_write.specs.Statement.{Encodes}
+use Rattle.wire_value.specs.declared.error.WireError.{WireError}
+use Rattle.wire.specs.Statement as rowset
+use Rattle.wire.specs.declared.rowset.Decoded.the-variants as decoded
+use Rattle.wire_write.specs.declared.write.Encoded.the-variants as rowsets
+use Rattle.wire_write.specs.Encode as rowset-write
 
 -- the reader of packets: what is not taken leaves the table, and what is taken leaves the words past its entries
 abbrev pub PacketTablesKeep : Type 0
@@ -24,3 +30,25 @@ PacketTablesKeep =
     (s : List ℕ) (limit ceiling : ℕ) (table : List ℕ) (r : Decoded) (after : List ℕ) → Decodes s limit ceiling table r after
     → (NotTaken (paper r) → after ≡ table)
     × (drop (entryWords * count s) after ≡ drop (entryWords * count s) table)
+
+-- the writer of packets
+abbrev pub PacketOutputKeeps : Type 0
+PacketOutputKeeps =
+    (type : PacketType) (flags : PacketFlags) (id : Guid) (area table out : List ℕ) (error : PacketError) (after : List ℕ)
+    → Encodes type flags id area table out (packets.Refused error) after → after ≡ out
+
+-- the reader of rowsets, and its two tables
+abbrev pub RowsetTablesKeep : Type 0
+RowsetTablesKeep =
+    (s rows values rows′ values′ : List ℕ) (refusal : WireError)
+    → rowset.Decodes s rows values (decoded.Refused refusal) rows′ values′ → (rows′ ≡ rows) × (values′ ≡ values)
+
+-- the writer of rowsets
+abbrev pub RowsetOutputKeeps : Type 0
+RowsetOutputKeeps =
+    (area rows values out : List ℕ) (refusal : WireError) (after : List ℕ)
+    → rowset-write.Encodes area rows values out (rowsets.Refused refusal) after → after ≡ out
+
+-- the printer of GUIDs
+abbrev pub TextKeeps : Type 0
+TextKeeps = (g : Guid) (before : List ℕ) (needed given : ℕ) (after : List ℕ) → Prints g before (printed.NoRoom needed given) after → after ≡ before

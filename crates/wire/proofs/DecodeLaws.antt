@@ -10,27 +10,16 @@ use Rattle.words.specs.Buffer.{over}
 use Rattle.words.proofs.BufferLaws.{fitted-sets, fitted-fits}
 use Rattle.wire_value.specs.Layout.{countAt, nextRows, valueCount, rowWords, valueWords}
 use Rattle.wire_value.specs.Refusal.{paper}
+use Rattle.wire_value.proofs.Unique.{paper-keeps}
 use Rattle.wire_value.specs.declared.error.WireError.{WireError}
-use Rattle.wire_value.specs.declared.error.WireError.the-variants.{Truncated, TooManyRows, TooManyValues, ValueTooLong, RowsetTooLarge, UnknownValueType, TrailingBytes, NoRoom, BadTable}
+use Rattle.wire_value.specs.declared.error.WireError.the-variants.{NoRoom}
 use Rattle.wire_value.proofs.LayoutLaws.{length-rowWords, length-valueWords}
 use Rattle.wire.specs.Reading.{roomOrder, reading}
 use Rattle.wire.specs.Stage.{WalksRowset}
-use Rattle.wire.specs.Statement.{filled, Decodes}
+use Rattle.wire.specs.Statement.{Decodes}
 use Rattle.wire.specs.declared.walk.Walked.{Walked}
 use Rattle.wire.specs.declared.walk.Walked.the-variants.{At, Stopped}
 use Rattle.wire.specs.declared.rowset.Decoded.the-variants.{Read, Refused}
-
--- a refusal leaves a table as it was
-pub filled-refused : (e : WireError) (words table : List ℕ) → filled (paper e) words table ≡ table
-filled-refused (Truncated offset needed) words table = refl
-filled-refused (TooManyRows count) words table = refl
-filled-refused (TooManyValues row count) words table = refl
-filled-refused (ValueTooLong n) words table = refl
-filled-refused (RowsetTooLarge size) words table = refl
-filled-refused (UnknownValueType code) words table = refl
-filled-refused (TrailingBytes n) words table = refl
-filled-refused (NoRoom which needed given) words table = refl
-filled-refused (BadTable rule position) words table = refl
 
 -- a run of stores from the front, where it fits
 stored-over : (words table : List ℕ) → length words ≤ length table → sets table 0 words ≡ over words table
@@ -41,7 +30,7 @@ module _ (s rows values : List ℕ) (r : Walked) (walks : WalksRowset s r) where
   unfolding reading
   decode-refused refusal e =
       let stopped : WalksRowset s (Stopped refusal) = rw e at walks in
-      (sym (stopped _), sym (filled-refused refusal _ rows), sym (filled-refused refusal _ values))
+      (sym (stopped _), sym (paper-keeps refusal _ rows), sym (paper-keeps refusal _ values))
 
   -- the input is accepted: the room is left to be looked at
   module _ (end n count : ℕ) (e : r ≡ At end n) (is : count ≡ countAt s 0) where

@@ -9,9 +9,9 @@ use Rattle.words.specs.Buffer.{stretch}
 use Rattle.wire_value.specs.Layout.{valuesIn, countAt, nextValue, nextValues, nextRow, nextRows, valueCount, entry, entries, rowWords, valueWords}
 use Rattle.wire_value.proofs.LayoutLaws.{length-entries}
 use Rattle.wire_value.specs.declared.error.WireError.{WireError}
+use Rattle.wire_value.proofs.Unique.{paper-keeps}
 use Rattle.wire.specs.Statement.{Decodes}
 use Rattle.wire.specs.declared.rowset.Decoded.the-variants.{Refused}
-use Rattle.wire.proofs.DecodeLaws.{filled-refused}
 
 module _ (s : List ℕ) where
   -- the word of row i is the count that stands where i rows end
@@ -57,4 +57,4 @@ module _ (s : List ℕ) where
 
 -- a refusal leaves the tables
 pub refusal-leaves : (s rows values rows′ values′ : List ℕ) (refusal : WireError) → Decodes s rows values (Refused refusal) rows′ values′ → (rows′ ≡ rows) × (values′ ≡ values)
-refusal-leaves s rows values rows′ values′ refusal d = (d .1 ∙ filled-refused refusal _ rows, d .2 ∙ filled-refused refusal _ values)
+refusal-leaves s rows values rows′ values′ refusal d = (d .1 ∙ paper-keeps refusal _ rows, d .2 ∙ paper-keeps refusal _ values)

@@ -2,13 +2,13 @@
 use mathlib.Core.Path.{_≡_, sym, _∙_, ap}
 use mathlib.Core.List.{List}
 use Prim.Native.Nat.{ℕ}
-use Rattle.words.specs.Answer.{Answer}
+use Rattle.words.specs.Answer.{Answer, afterwards}
 use Rattle.words.specs.Statement.{OneResult}
 use Rattle.words.proofs.Unique.{equal-to-one}
 use Rattle.wire_value.specs.Layout.{countAt, rowWords, valueWords}
 use Rattle.wire_value.proofs.Unique.{paper-injective, paper-never-accepted}
 use Rattle.wire.specs.Plain.{plain}
-use Rattle.wire.specs.Statement.{paperDecoded, filled, Decodes, TellsPlain}
+use Rattle.wire.specs.Statement.{paperDecoded, Decodes, TellsPlain}
 use Rattle.wire.specs.declared.rowset.Decoded.{Decoded}
 use Rattle.wire.specs.declared.rowset.Decoded.the-variants.{Read, Refused}
 
@@ -24,8 +24,8 @@ pub decode-rowset-unique : (s rows values : List ℕ) (r r′ : Decoded) (a a′
 decode-rowset-unique s rows values r r′ a a′ b b′ p q =
     let same : paperDecoded r ≡ paperDecoded r′ = p .0 ∙ sym (q .0) in (
       decoded-injective r r′ same,
-      p .1 ∙ ap (λ (answer : Answer). filled answer (rowWords s (countAt s 0) 8) rows) same ∙ sym (q .1),
-      p .2 ∙ ap (λ (answer : Answer). filled answer (valueWords s (countAt s 0) 8) values) same ∙ sym (q .2),
+      p .1 ∙ ap (λ (answer : Answer). afterwards answer (rowWords s (countAt s 0) 8) rows) same ∙ sym (q .1),
+      p .2 ∙ ap (λ (answer : Answer). afterwards answer (valueWords s (countAt s 0) 8) values) same ∙ sym (q .2),
     )
 
 pub is-plain-unique : (s : List ℕ) → OneResult (TellsPlain s)

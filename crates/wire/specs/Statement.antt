@@ -5,8 +5,7 @@ use mathlib.Core.Path.{_≡_}
 use mathlib.Core.Bool.{Bool}
 use mathlib.Core.List.{List, [], _∷_}
 use lib.ListN.{length}
-use Rattle.words.specs.Answer.{Answer, accepted, more, refused}
-use Rattle.words.specs.Buffer.{over}
+use Rattle.words.specs.Answer.{Answer, accepted, afterwards}
 use Rattle.wire_value.specs.Layout.{countAt, rowWords, valueWords}
 use Rattle.wire_value.specs.Refusal.{paper}
 use Rattle.wire.specs.Reading.{reading}
@@ -19,17 +18,12 @@ abbrev pub paperDecoded : Decoded → Answer
 paperDecoded (Read rows values) = accepted 0 (rows ∷ values ∷ [])
 paperDecoded (Refused refusal) = paper refusal
 
--- what a table holds afterwards: where the answer is accepted, the words over its front; else what it held
-abbrev pub filled : Answer → List ℕ → List ℕ → List ℕ
-filled (accepted consumed fields) words table = over words table
-filled more words table = table
-filled (refused number values consumed) words table = table
-
+-- what was read, and what the two tables hold afterwards
 abbrev pub Decodes : List ℕ → List ℕ → List ℕ → Decoded → List ℕ → List ℕ → Type 0
 Decodes s rows values r rows′ values′ =
     (paperDecoded r ≡ reading s (length rows) (length values))
-    × (rows′ ≡ filled (paperDecoded r) (rowWords s (countAt s 0) 8) rows)
-    × (values′ ≡ filled (paperDecoded r) (valueWords s (countAt s 0) 8) values)
+    × (rows′ ≡ afterwards (paperDecoded r) (rowWords s (countAt s 0) 8) rows)
+    × (values′ ≡ afterwards (paperDecoded r) (valueWords s (countAt s 0) 8) values)
 
 -- yes exactly where the input has the plain form
 abbrev pub TellsPlain : List ℕ → Bool → Type 0

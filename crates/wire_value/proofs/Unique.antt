@@ -3,8 +3,9 @@ use mathlib.Core.Path.{_≡_, refl, sym, _∙_, ap}
 use mathlib.Core.List.{List}
 use Prim.Native.Nat.{ℕ}
 use native.Mathlib.Omega.{arith}
-use Rattle.words.specs.Answer.{Answer, accepted, more, refused}
+use Rattle.words.specs.Answer.{Answer, accepted, more, refused, afterwards}
 use Rattle.words.specs.Statement.{OneResult}
+use Rattle.words.proofs.AnswerLaws.{isRefused}
 use Rattle.words.proofs.Unique.{equal-to-one}
 use Rattle.wire_value.specs.Layout.{valuesIn, padded}
 use Rattle.wire_value.specs.Refusal.{paper, unpaper}
@@ -29,12 +30,19 @@ paper-back (BadTable rule position) = refl
 pub paper-injective : (e f : WireError) → paper e ≡ paper f → e ≡ f
 paper-injective e f same = sym (paper-back e) ∙ ap unpaper same ∙ paper-back f
 
--- a refusal is neither acceptance nor need-more
-abbrev isRefused : Answer → ℕ
-isRefused (accepted consumed fields) = 0
-isRefused more = 0
-isRefused (refused number values consumed) = 1
+-- a refusal leaves lent memory as it was
+pub paper-keeps : (e : WireError) (ws xs : List ℕ) → afterwards (paper e) ws xs ≡ xs
+paper-keeps (Truncated offset needed) ws xs = refl
+paper-keeps (TooManyRows count) ws xs = refl
+paper-keeps (TooManyValues row count) ws xs = refl
+paper-keeps (ValueTooLong n) ws xs = refl
+paper-keeps (RowsetTooLarge size) ws xs = refl
+paper-keeps (UnknownValueType code) ws xs = refl
+paper-keeps (TrailingBytes n) ws xs = refl
+paper-keeps (NoRoom which needed given) ws xs = refl
+paper-keeps (BadTable rule position) ws xs = refl
 
+-- a refusal is neither acceptance nor need-more
 paper-refuses : (e : WireError) → isRefused (paper e) ≡ 1
 paper-refuses (Truncated offset needed) = refl
 paper-refuses (TooManyRows count) = refl

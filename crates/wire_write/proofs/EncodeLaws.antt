@@ -8,33 +8,22 @@ use borrow.Author.Tests.{lt-ltb, le-ltb}
 use Rattle.wire_value.specs.Layout.{entryWords, rowsetBytes}
 use Rattle.wire_value.specs.Refusal.{paper}
 use Rattle.wire_value.specs.declared.error.WireError.{WireError}
-use Rattle.wire_value.specs.declared.error.WireError.the-variants.{Truncated, TooManyRows, TooManyValues, ValueTooLong, RowsetTooLarge, UnknownValueType, TrailingBytes, NoRoom, BadTable}
+use Rattle.wire_value.specs.declared.error.WireError.the-variants.{NoRoom}
+use Rattle.wire_value.proofs.Unique.{paper-keeps}
 use Rattle.wire_table.specs.Writing.{total, rowsetSize, writing}
 use Rattle.wire_table.specs.Measure.{Good, Fits}
-use Rattle.wire_write.specs.Encode.{Puts, afterwards, Encodes}
+use Rattle.wire_write.specs.Encode.{Puts, Encodes}
 use Rattle.wire_table.specs.declared.size.Measured.{Measured}
 use Rattle.wire_table.specs.declared.size.Measured.the-variants.{Size, Refused}
 use Rattle.wire_write.specs.declared.write.Encoded.the-variants as encoded
 use Rattle.wire_write.proofs.LengthLaws.{rowset-length}
-
--- a refusal leaves the output
-unchanged : (refusal : WireError) (bytes before : List ℕ) → before ≡ afterwards (paper refusal) bytes before
-unchanged (Truncated offset needed) bytes before = refl
-unchanged (TooManyRows count) bytes before = refl
-unchanged (TooManyValues row count) bytes before = refl
-unchanged (ValueTooLong n) bytes before = refl
-unchanged (RowsetTooLarge size) bytes before = refl
-unchanged (UnknownValueType code) bytes before = refl
-unchanged (TrailingBytes n) bytes before = refl
-unchanged (NoRoom which needed given) bytes before = refl
-unchanged (BadTable rule position) bytes before = refl
 
 module _ (area rows values before : List ℕ) (r : Measured) (measured : Fits area rows values r) where
   pub encode-refused : (refusal : WireError) → r ≡ Refused refusal → Encodes area rows values before (encoded.Refused refusal) before
   unfolding writing
   encode-refused refusal e =
       let failed : Fits area rows values (Refused refusal) = rw e at measured in
-      (sym (failed _), unchanged refusal (rowsetBytes area rows values) before)
+      (sym (failed _), sym (paper-keeps refusal (rowsetBytes area rows values) before))
 
   module _ (size : ℕ) (e : r ≡ Size size) where
     passed : Fits area rows values (Size size)

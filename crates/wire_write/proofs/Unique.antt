@@ -3,11 +3,11 @@
 use mathlib.Core.Path.{_≡_, sym, _∙_, ap}
 use mathlib.Core.List.{List, []}
 use Prim.Native.Nat.{ℕ}
-use Rattle.words.specs.Answer.{Answer, accepted}
+use Rattle.words.specs.Answer.{Answer, accepted, afterwards}
 use Rattle.words.specs.Statement.{OneResult}
 use Rattle.wire_value.specs.Layout.{rowsetBytes}
 use Rattle.wire_value.proofs.Unique.{paper-injective, paper-never-accepted}
-use Rattle.wire_write.specs.Encode.{Encodes, paperEncoded, afterwards}
+use Rattle.wire_write.specs.Encode.{Encodes, paperEncoded}
 use Rattle.wire_write.specs.declared.write.Encoded.{Encoded}
 use Rattle.wire_write.specs.declared.write.Encoded.the-variants.{Written, Refused}
 

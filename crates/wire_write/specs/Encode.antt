@@ -3,7 +3,7 @@ use Prim.Native.Nat.{ℕ}
 use mathlib.Core.Path.{_≡_}
 use mathlib.Core.List.{List, [], _++_}
 use lib.ListN.{length, replicate}
-use Rattle.words.specs.Answer.{Answer, accepted, more, refused}
+use Rattle.words.specs.Answer.{Answer, accepted, afterwards}
 use Rattle.words.specs.Buffer.{over, stretch}
 use Rattle.words.specs.Word.{bytesOf}
 use Rattle.wire_value.specs.Layout.{padding, rowsetBytes}
@@ -27,12 +27,6 @@ blobBytes area offset n = stretch area offset n ++ replicate (padding n) 0
 abbrev pub paperEncoded : Encoded → Answer
 paperEncoded (Written n) = accepted n []
 paperEncoded (Refused refusal) = paper refusal
-
--- what an output holds after such an answer: the bytes over its front, else what it held
-abbrev pub afterwards : Answer → List ℕ → List ℕ → List ℕ
-afterwards (accepted n fields) bytes before = over bytes before
-afterwards more bytes before = before
-afterwards (refused number values consumed) bytes before = before
 
 -- `encode_rowset`, lent an output that held `before` and holds `after`
 abbrev pub Encodes : List ℕ → List ℕ → List ℕ → List ℕ → Encoded → List ℕ → Type 0

@@ -3,5 +3,6 @@ pub mod WordLaws
 pub mod BufferLaws
 pub mod DecideLaws
 pub mod Unique
+pub mod AnswerLaws
 pub mod LentLaws
 pub mod FillingLaws

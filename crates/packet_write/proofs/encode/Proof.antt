@@ -2,9 +2,9 @@
 -- Assumes nothing.
 use mathlib.Core.Path.{refl}
 use Rattle.packet.specs.Paper.{typeNumber, refusal}
-use Rattle.packet_table.proofs.CheckLaws.{refusal-refuses, sized}
+use Rattle.packet_table.proofs.CheckLaws.{sized}
 use Rattle.packet_write.specs.Statement.{bytesFor}
-use Rattle.packet_write.proofs.PacketLaws.{output-kept, writing-refuses, writing-short, writing-accepts, packet-fits}
+use Rattle.packet_write.proofs.PacketLaws.{writing-refuses, writing-short, writing-accepts, packet-fits}
 use lib.ListN.{length}
 use borrow.Author.Needs.{needs}
 use Rattle.packet_write.proofs.encode.Statement.{statement}
@@ -38,7 +38,7 @@ returns-2 c =
     let start = c .before .before .before .before .before .before .before .args in
     let told = rw (c .before .error .given .1) at (c .before .before .before .encoded-size .ensures) in
     let error = c .before .error .given .0 .0 in
-    record { answer = writing-refuses (typeNumber (start .packet-type)) (start .area .now) (start .parts .now) (length (start .out .now)) error told; output = output-kept (refusal error 0) (bytesFor (start .packet-type) (start .flags) (start .id) (start .area .now) (start .parts .now)) (start .out .now) (refusal-refuses error 0) }
+    record { answer = writing-refuses (typeNumber (start .packet-type)) (start .area .now) (start .parts .now) (length (start .out .now)) error told; output = refl }
 
 same-length : tie.Need-same-length
 same-length c = search needs

@@ -1,8 +1,8 @@
 -- `cablefinch_decode` meets its contract. Assumes nothing.
 use Rattle.face.proofs.OutcomeLaws.{told}
 use mathlib.Core.Path.{_∙_, ap}
-use Rattle.words.specs.Answer.{Answer}
-use Rattle.packet.specs.Reading.{tableAfter}
+use Rattle.words.specs.Answer.{Answer, afterwards}
+use Rattle.packet.specs.Reading.{entries}
 use borrow.Author.Needs.{needs}
 use Rattle.face.proofs.packets.cablefinch_decode.Statement.{statement}
 use Rattle.face.proofs.packets.cablefinch_decode.Tie as tie
@@ -19,7 +19,7 @@ same-length c = search needs
 returns : tie.Need-returns
 returns c =
     let e = c .before .before .before .decode .ensures in
-    (told (e .answer) (c .decoded .ensures), e .tables ∙ ap (λ (a : Answer). tableAfter a (c .before .before .before .before .before .before .before .args .input .now) (c .before .before .before .before .before .before .before .args .parts .now)) (e .answer))
+    (told (e .answer) (c .decoded .ensures), e .tables ∙ ap (λ (a : Answer). afterwards a (entries (c .before .before .before .before .before .before .before .args .input .now)) (c .before .before .before .before .before .before .before .args .parts .now)) (e .answer))
 
 pub cablefinch-decode-spec : {M : Type 1} → statement M
 cablefinch-decode-spec = tie.close (tie.spec decode-requires decoded-requires same-length returns)

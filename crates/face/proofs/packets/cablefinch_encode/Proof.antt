@@ -4,12 +4,12 @@ use Prim.Native.Nat.{ℕ}
 use mathlib.Core.Path.{_≡_, _∙_, ap}
 use mathlib.Core.List.{List}
 use lib.ListN.{length}
-use Rattle.words.specs.Answer.{Answer}
+use Rattle.words.specs.Answer.{Answer, afterwards}
 use Rattle.guid.specs.declared.Guid.{Guid}
 use Rattle.guid.specs.Guid.{guidAt, wordsOf}
 use Rattle.packet_table.specs.Wire.{packetBytes, partsOf}
 use Rattle.packet_write.specs.Paper.{paper}
-use Rattle.packet_write.specs.Writing.{writing, outAfter}
+use Rattle.packet_write.specs.Writing.{writing}
 use Rattle.face.specs.Statement.{encoding}
 use borrow.Author.Needs.{needs}
 use Rattle.face.proofs.packets.cablefinch_encode.Statement.{statement}
@@ -21,7 +21,7 @@ words-requires c κs = search needs
 returns : tie.Need-returns
 returns c =
     let above = typed-refused (c .before .before .before .before .before .before .args .kind) (writing (c .before .before .before .before .before .before .args .kind) (c .before .before .before .before .before .before .args .area .now) (c .before .before .before .before .before .before .args .parts .now) (length (c .before .before .before .before .before .before .args .out .now))) (c .before .if1 .taken) in
-    (told above (c .words .ensures), ap (λ (x : Answer). outAfter x (packetBytes (c .before .before .before .before .before .before .args .kind) (c .before .before .before .before .before .before .args .flags) (wordsOf (guidAt (c .before .before .before .before .before .before .args .id .now) 0)) (partsOf (c .before .before .before .before .before .before .args .area .now) (c .before .before .before .before .before .before .args .parts .now))) (c .before .before .before .before .before .before .args .out .now)) above)
+    (told above (c .words .ensures), ap (λ (x : Answer). afterwards x (packetBytes (c .before .before .before .before .before .before .args .kind) (c .before .before .before .before .before .before .args .flags) (wordsOf (guidAt (c .before .before .before .before .before .before .args .id .now) 0)) (partsOf (c .before .before .before .before .before .before .args .area .now) (c .before .before .before .before .before .before .args .parts .now))) (c .before .before .before .before .before .before .args .out .now)) above)
 
 packet-type-requires : tie.Need-packet-type-requires
 packet-type-requires c κs = search needs
@@ -51,9 +51,9 @@ returns-2 c =
     e .answer ∙ ap (λ (k : ℕ). writing k area parts (length out)) type ∙ typed-known kind _ (c .before .before .before .before .before .before .before .if1 .left) in (
       told answer (c .encoded .ensures),
       e .output
-          ∙ ap (λ (k : ℕ). outAfter (paper (c .before .before .before .encode .result)) (packetBytes k flags (wordsOf (c .before .before .before .before .before .from-bytes .result)) (partsOf area parts)) out) type
-          ∙ ap (λ (g : Guid). outAfter (paper (c .before .before .before .encode .result)) (packetBytes kind flags (wordsOf g) (partsOf area parts)) out) (c .before .before .before .before .before .from-bytes .ensures)
-          ∙ ap (λ (x : Answer). outAfter x (packetBytes kind flags (wordsOf (guidAt (c .before .before .before .before .before .before .before .before .before .before .before .before .args .id .now) 0)) (partsOf area parts)) out) answer,
+          ∙ ap (λ (k : ℕ). afterwards (paper (c .before .before .before .encode .result)) (packetBytes k flags (wordsOf (c .before .before .before .before .before .from-bytes .result)) (partsOf area parts)) out) type
+          ∙ ap (λ (g : Guid). afterwards (paper (c .before .before .before .encode .result)) (packetBytes kind flags (wordsOf g) (partsOf area parts)) out) (c .before .before .before .before .before .from-bytes .ensures)
+          ∙ ap (λ (x : Answer). afterwards x (packetBytes kind flags (wordsOf (guidAt (c .before .before .before .before .before .before .before .before .before .before .before .before .args .id .now) 0)) (partsOf area parts)) out) answer,
     )
 
 pub cablefinch-encode-spec : {M : Type 1} → statement M

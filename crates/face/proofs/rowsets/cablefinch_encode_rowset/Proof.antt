@@ -1,8 +1,7 @@
 -- `cablefinch_encode_rowset` meets its contract. Assumes nothing.
 use Rattle.face.proofs.OutcomeLaws.{told}
 use mathlib.Core.Path.{_∙_, ap}
-use Rattle.words.specs.Answer.{Answer}
-use Rattle.wire_write.specs.Encode.{afterwards}
+use Rattle.words.specs.Answer.{Answer, afterwards}
 use Rattle.wire_value.specs.Layout.{rowsetBytes}
 use borrow.Author.Needs.{needs}
 use Rattle.face.proofs.rowsets.cablefinch_encode_rowset.Statement.{statement}
