@@ -8,7 +8,7 @@ use lib.ListN.{length, take}
 use lib.Seq.{take-at}
 use Rattle.words.specs.Decide.{pick, _<?_}
 use Rattle.wire_value.specs.Layout.{maxSize, countAt, rowsetBytes}
-use Rattle.wire_accept.specs.Accepts.{accepted-good}
+use Rattle.wire_accept.proofs.Accepts.{accepted-good}
 use Rattle.wire.specs.Plain.{accepts, plainRows, plain}
 use Rattle.wire.proofs.RowLaws.{row-word, row-entries}
 use Rattle.wire.proofs.AlikeLaws.{read-alike}
@@ -16,6 +16,7 @@ use Rattle.wire_round.proofs.RowsetRound.{round-trip}
 use Rattle.wire_round.proofs.PlainRound.{written-plain}
 use Rattle.promises.specs.Rowsets.{RowsetRoundTrip, RowsInOrder, IgnoredBytes, PlainExactly, WrittenIsPlain, RowsetEncodeThenDecode}
 
+-- Tables that were written are read back, nulls and empties in their places.
 pub rowset-round-trip : RowsetRoundTrip
 rowset-round-trip = round-trip
 
@@ -23,6 +24,7 @@ rowset-round-trip = round-trip
 pub rows-in-order : RowsInOrder
 rows-in-order s i h = (row-word s (countAt s 0) i 8 h, row-entries s (countAt s 0) i 8 h)
 
+-- Inputs that differ only where reading does not look read alike.
 pub ignored-bytes : IgnoredBytes
 ignored-bytes = read-alike
 
@@ -31,6 +33,7 @@ both true ok values e = absurd (false≢true e)
 both false true values e = (refl, refl, e)
 both false false values e = absurd (false≢true e)
 
+-- The plain-form check says yes exactly as document 01 defines it.
 pub plain-exactly : PlainExactly
 unfolding plain
 plain-exactly s = (
@@ -40,9 +43,11 @@ plain-exactly s = (
   (λ short ok values. rw (le-ltb maxSize (length s) short, ok) values),
 )
 
+-- What is written has the plain form.
 pub written-is-plain : WrittenIsPlain
 written-is-plain = written-plain
 
+-- And so it is of the bytes that `encode_rowset` says it wrote.
 pub rowset-encode-then-decode : RowsetEncodeThenDecode
 rowset-encode-then-decode area rows values out n after words told =
     let found = accepted-good area rows values (length out) n [] words (sym (told .0)) in

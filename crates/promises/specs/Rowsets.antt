@@ -6,14 +6,13 @@ use mathlib.Core.List.{List}
 use mathlib.Core.Path.{_≡_}
 use lib.ListN.{length, getD, take}
 use Rattle.words.specs.Buffer.{stretch}
-use Rattle.wire_value.specs.Layout.{nullMark, maxSize, valuesIn, countAt, nextRows, valueCount, entries, rowWords, valueWords, rowsetBytes}
+use Rattle.wire_value.specs.Layout.{maxSize, entryWords, valuesIn, countAt, nextRows, valueCount, entries, rowWords, valueWords, rowsetBytes}
 use Rattle.wire.specs.Reading.{reading}
 use Rattle.wire.specs.Plain.{accepts, plainRows, plain}
 use Rattle.wire.specs.Alike.{Alike}
 use Rattle.wire_write.specs.declared.write.Encoded.the-variants.{Written}
 use Rattle.wire_write.specs.Encode.{Encodes}
-use Rattle.wire_round.specs.Tables.{GoodTables}
-use Rattle.wire_round.proofs.RowsetRound.{ReadBack}
+use Rattle.wire_round.specs.Tables.{GoodTables, ReadBack}
 
 -- Writing tables that keep the limits and rule 3, and reading the bytes, gives the same rows and values, nulls and empties each in
 -- their place, offsets apart; blobs have the same bytes.
@@ -26,7 +25,7 @@ abbrev pub RowsInOrder : Type 0
 RowsInOrder =
     (s : List ℕ) (i : ℕ) → i < countAt s 0
     → (getD (rowWords s (countAt s 0) 8) i 0 ≡ countAt s (nextRows s i 8))
-    × (stretch (valueWords s (countAt s 0) 8) (5 * valueCount s i 8) (5 * valuesIn (countAt s (nextRows s i 8)))
+    × (stretch (valueWords s (countAt s 0) 8) (entryWords * valueCount s i 8) (entryWords * valuesIn (countAt s (nextRows s i 8)))
     ≡ entries s (valuesIn (countAt s (nextRows s i 8))) (nextRows s i 8 + 8))
 
 -- Two inputs that differ only in padding, in length words of types 2 to 6, in which non-zero byte an aggregate is or which non-zero

@@ -17,7 +17,7 @@ use Rattle.words.proofs.WordLaws.{length-bytesOf}
 use Rattle.wire_value.specs.Layout.{blob, nullMark, maxRows, maxValues, entryWords, payload, valuesIn, countAt, nextValue, nextValues, nextRow, nextRows, entry, entries, rowWords, valueWords, entryBytes, valuesBytes, rowBytes, rowsBytes, rowsetBytes}
 use Rattle.wire_value.specs.ValueOrder.{valueOrder}
 use Rattle.wire.specs.Reading.{readValues, countOrder, readRow, readRows, headOrder, readRowset}
-use Rattle.wire_round.specs.Tables.{GoodAt, GoodEntries, GoodCount, null-row, count, GoodRows, GoodTables, movedEntries, movedEnd, movedRows, KeptBlobs, KeptRows}
+use Rattle.wire_round.specs.Tables.{GoodAt, GoodEntries, GoodCount, null-row, count, GoodRows, GoodTables, movedEntries, movedEnd, movedRows, KeptBlobs, KeptRows, ReadBack}
 use Rattle.wire_round.proofs.ValueRound.{word-stands, drop-behind, reads-next, tail-stands, reads-blob, value-passes, entry-read}
 
 -- where the value of the entry at the word k ends that begins at `at`
@@ -105,18 +105,6 @@ module _ (area values s : List ℕ) where
 -- nothing stands behind the end
 ended : (s : List ℕ) (at : ℕ) → drop at s ≡ [] → length s ≤ at
 ended s at e = let none : length s - at ≡ 0 = sym (length-drop at s) ∙ ap length e in omega arith
-
--- what reading the bytes of tables comes to
-pub record ReadBack (area rows values s : List ℕ) : Type 0 where
-  -- every check passes but those of the room, which is left to the reader's tables
-  pub passes : (rest : Answer) → readRowset s rest ≡ rest
-  pub row-count : countAt s 0 ≡ length rows
-  -- the same rows, null rows and empty rows each in their place
-  pub same-rows : rowWords s (countAt s 0) 8 ≡ rows
-  -- the same values, a blob's offset apart
-  pub same-values : valueWords s (countAt s 0) 8 ≡ movedRows rows values 0 8
-  -- and each blob's bytes
-  pub same-blobs : KeptRows s area rows values 0 8
 
 pub round-trip : (area rows values : List ℕ) → GoodTables area rows values → ReadBack area rows values (rowsetBytes area rows values)
 unfolding rowsetBytes readRowset headOrder

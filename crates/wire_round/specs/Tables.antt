@@ -5,9 +5,11 @@ use mathlib.Core.Path.{_≡_}
 use mathlib.Core.Bool.{true, false}
 use mathlib.Core.List.{List, [], _∷_, _++_}
 use lib.ListN.{length, getD}
+use Rattle.words.specs.Answer.{Answer}
 use Rattle.words.specs.Buffer.{stretch}
 use Rattle.words.specs.Decide.{pick}
-use Rattle.wire_value.specs.Layout.{nullMark, maxRows, maxValues, maxLength, entryWords, boolean, scalar, blob, known, payload, valuesIn}
+use Rattle.wire_value.specs.Layout.{nullMark, maxRows, maxValues, maxLength, entryWords, boolean, scalar, blob, known, payload, valuesIn, countAt, rowWords, valueWords}
+use Rattle.wire.specs.Reading.{readRowset}
 
 -- an entry that rule 3 allows, with a blob of an allowed length
 pub record GoodEntry (area : List ℕ) (id type aggregate bits n : ℕ) : Type 0 where
@@ -75,3 +77,15 @@ KeptRows s area [] values k at = Unit {0}
 KeptRows s area (word ∷ rows) values k at =
     KeptBlobs s area values (valuesIn word) k (at + 8)
     × KeptRows s area rows values (k + entryWords * valuesIn word) (movedEnd values (valuesIn word) k (at + 8))
+
+-- what reading the bytes of tables comes to
+pub record ReadBack (area rows values s : List ℕ) : Type 0 where
+  -- every check passes but those of the room, which is left to the reader's tables
+  pub passes : (rest : Answer) → readRowset s rest ≡ rest
+  pub row-count : countAt s 0 ≡ length rows
+  -- the same rows, null rows and empty rows each in their place
+  pub same-rows : rowWords s (countAt s 0) 8 ≡ rows
+  -- the same values, a blob's offset apart
+  pub same-values : valueWords s (countAt s 0) 8 ≡ movedRows rows values 0 8
+  -- and each blob's bytes
+  pub same-blobs : KeptRows s area rows values 0 8
