@@ -1,7 +1,6 @@
 // The library's enums as an `Outcome`.
 ghost use mathlib.Core.Path.{_≡_};
 ghost use mathlib.Core.List.{[], _∷_};
-ghost use Rattle.words.specs.Answer.{refuse};
 ghost use Rattle.guid.specs.Statement.{printedPaper, parsedPaper};
 ghost use Rattle.packet.specs.Paper.{refusal, paper};
 ghost use Rattle.packet_table.specs.Paper.{paperValidated, paperMeasured};
@@ -16,7 +15,6 @@ use super::outcome::Outcome;
 use guid::Parsed;
 use guid::Printed;
 use packet::Decoded;
-use packet::Packet;
 use packet::PacketError;
 use packet::PacketType;
 use packet_table::Measured;
@@ -24,7 +22,6 @@ use packet_table::Validated;
 use packet_write::Encoded;
 use wire_value::error::WireError;
 use wire_value::value::ReadValue;
-use wire_value::value::UnversionedValue;
 use wire_value::value::Value;
 
 pub(crate) fn words(kind: u64, number: u64, count: u64, v0: u64, v1: u64, v2: u64) -> Outcome

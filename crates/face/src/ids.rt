@@ -5,14 +5,11 @@ use super::flat;
 use super::outcome::Outcome;
 use guid::Guid;
 
-// The bytes of an id.
-const ID_SIZE: usize = 16;
-
 // The sixteen bytes over the front of `out`, or 17.
 fn write_id(id: Guid, out: &mut [u8]) -> Outcome
     ensures { λ r. ⌜ WritesId id (now (out .entry)) r (now (out .exit)) ⌝ }
 {
-    if out.len() < ID_SIZE {
+    if out.len() < 16 {
         return flat::words(2, 17, 0, 4, 16, out.len() as u64);
     }
     id.write(out);

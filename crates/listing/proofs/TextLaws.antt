@@ -1,14 +1,13 @@
 -- Laws of text written at a place, and of the text's length. Assumes nothing.
 use mathlib.Core.Path.{_≡_, refl, sym, _∙_, ap, subst}
 use mathlib.Core.List.{List, [], _∷_, _++_, append-assoc, append-nil}
-use mathlib.Core.Logic.{⊎-elim}
 use Prim.Native.Nat.{ℕ, zero, suc, _+_, _-_, _*_, _/_, _%_, _^_, _<_, _≤_}
 use native.Mathlib.Nat.{zero-add, add-zero, pow-succ'}
 use native.Mathlib.Numerals.{add-one}
 use native.Mathlib.Omega.{arith}
 use borrow.Author.Tests.{lt-ltb, le-ltb, eq-eqb, ne-eqb}
 use lib.ListN.{length, getD, set, take, drop, length-append, length-drop, drop-of-length-le, take-append-drop}
-use lib.Seq.{take-at, drop-at, drop-drop, length-take-le, set-split, take-all}
+use lib.Seq.{take-at, drop-at, drop-drop, length-take-le, set-split}
 use Rattle.words.specs.Buffer.{over, fitted}
 use Rattle.words.proofs.BufferLaws.{fitted-fits}
 use Rattle.words.proofs.LentLaws.{tail, back, tail-is-drop}

@@ -14,8 +14,8 @@ use Rattle.packet.specs.declared.Decoded.{Decoded}
 use Rattle.packet.specs.declared.Decoded.the-variants.{Read, More, Refused}
 use Rattle.packet.specs.declared.Packet.{Packet}
 use Rattle.packet.specs.declared.PacketError.{PacketError}
-use Rattle.packet.specs.Layout.{mostParts, hasVariableHeader, type, count, fields, whole, takenBefore}
-use Rattle.packet.specs.Reading.{order, reading, room, entries, entriesFrom}
+use Rattle.packet.specs.Layout.{mostParts, hasVariableHeader, type, count, fields, whole}
+use Rattle.packet.specs.Reading.{order, reading, room, entries}
 use Rattle.packet.specs.Paper.{numberOf, fieldsOf}
 use Rattle.packet.specs.Paper as Packet
 use Rattle.packet.specs.Statement.{Decodes}
@@ -26,7 +26,7 @@ use Rattle.packet_table.proofs.CheckLaws.{silent, acceptedCount}
 use Rattle.listing.specs.declared.Listed.{Listed}
 use Rattle.listing.specs.declared.Listed.the-variants as Listed
 use Rattle.listing.specs.Text.{packetLine, partLines, endLine, moreLine, refusedLine}
-use Rattle.listing.specs.Walk.{textRoom, byteLimit, partCeiling, Step, lines, last, short, answered, stepping, tableThen, textThen, stepAnswer}
+use Rattle.listing.specs.Walk.{textRoom, byteLimit, partCeiling, Step, last, answered, stepping, tableThen, textThen, stepAnswer}
 use Rattle.listing.specs.Statement.{paper, Lists, Wrote}
 use Rattle.listing.proofs.TextLaws.{wrote-front, wrote-as, parts-same}
 

@@ -10,7 +10,6 @@ ghost use mathlib.Core.Path.{_≡_};
 ghost use mathlib.Core.List.{[], _∷_, _++_};
 ghost use Prim.Native.Nat.{_+_, _*_, _≤_, _<_};
 ghost use lib.ListN.{length};
-ghost use Rattle.packet.specs.Reading.{nullLength};
 ghost use Rattle.packet.specs.Paper.{typeNumber, numberOf, fieldsOf};
 ghost use Rattle.listing.specs.Text.{line, lengthText, packetLine, partLine, partLines, endLine, moreLine, refusedLine};
 ghost use Rattle.listing.specs.Statement.{Wrote, Lists, Onward};

@@ -1,6 +1,5 @@
 // Pieces of text written to a buffer at a place, each answering where it ends. All of it is private to the crate.
 use guid::Guid;
-ghost use mathlib.Core.Path.{_≡_};
 ghost use mathlib.Core.List.{[], _∷_, _++_};
 ghost use Prim.Native.Nat.{_+_, _^_, _≤_, _<_};
 ghost use lib.ListN.{length};

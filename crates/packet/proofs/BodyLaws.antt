@@ -1,12 +1,12 @@
 -- The stages put together: what each return of the two top functions has to show, from what the stages told. Assumes nothing.
 use mathlib.Core.Path.{_≡_, refl, sym, _∙_, ap}
 use mathlib.Core.Bool.{Bool, true, false, _||_, true≢false}
-use mathlib.Core.List.{List, [], _∷_}
+use mathlib.Core.List.{List}
 use Prim.Native.Nat.{ℕ, _<_, _≤_, min}
 use native.Mathlib.Omega.{arith}
 use borrow.Author.Tests.{ltb-false}
 use lib.ListN.{getD}
-use Rattle.words.specs.Answer.{Answer, accepted, more, refused}
+use Rattle.words.specs.Answer.{Answer, accepted}
 use Rattle.words.specs.Buffer.{over}
 use Rattle.words.specs.Decide.{_=?_, _<?_}
 use Rattle.packet.specs.declared.Decoded.{Decoded}
@@ -18,7 +18,7 @@ use Rattle.packet.specs.declared.Fixed.the-variants as Fixed
 use Rattle.packet.specs.declared.Variable.the-variants as Variable
 use Rattle.packet.specs.declared.Parts.the-variants.{Failing, Good}
 use Rattle.packet.specs.Layout.{mostParts, hasVariableHeader, type, count, fields, whole}
-use Rattle.packet.specs.Reading.{order, reading, room, entriesFrom}
+use Rattle.packet.specs.Reading.{reading, room, entriesFrom}
 use Rattle.packet.specs.Paper.{typeNumber, fieldsOf}
 use Rattle.packet.specs.Statement.{Decodes}
 use Rattle.packet.specs.Stages.{linesOf, FixedStage, VariableStage, PartsStage, BodyStage}

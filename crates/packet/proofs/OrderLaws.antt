@@ -1,15 +1,15 @@
 -- What the lines of the reading order answer, line by line: each law takes the facts that a stage of the code has tested.
 -- Assumes nothing.
-use mathlib.Core.Path.{_≡_, refl, sym, _∙_, ap}
-use mathlib.Core.Bool.{Bool, true, false, not, _&&_}
+use mathlib.Core.Path.{_≡_, _∙_, ap}
+use mathlib.Core.Bool.{Bool, true, false}
 use mathlib.Core.List.{List, [], _∷_}
-use Prim.Native.Nat.{ℕ, _+_, _*_, _<_, _≤_, min}
+use Prim.Native.Nat.{ℕ, _+_, _<_, _≤_, min}
 use native.Mathlib.Omega.{arith}
 use borrow.Author.Tests.{lt-ltb, le-ltb, eq-eqb, ne-eqb}
 use lib.ListN.{length, take}
 use Rattle.words.specs.Answer.{Answer, accepted, more, refused}
 use Rattle.words.specs.Buffer.{stretch}
-use Rattle.words.specs.Decide.{decide, _≠?_}
+use Rattle.words.specs.Decide.{decide}
 use Rattle.words.proofs.DecideLaws.{decide-append}
 use Rattle.crc64.specs.Polynomial.{checksum}
 use Rattle.packet.specs.Layout.{packetSignature, mostParts, hasVariableHeader, headers, signature, type, fixedSum, fields, variable, variableSum, whole, size, partSum, start, part}

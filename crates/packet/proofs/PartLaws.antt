@@ -1,12 +1,11 @@
 -- What the walk over the parts keeps: where each part stands, and the first whose checksum fails. Assumes nothing.
 use mathlib.Core.Path.{_≡_, refl, sym, _∙_, ap}
-use mathlib.Core.Bool.{Bool, true, false, not, _&&_}
 use mathlib.Core.List.{List}
-use Prim.Native.Nat.{ℕ, _+_, _*_, _<_, _≤_, _-_}
+use Prim.Native.Nat.{ℕ, _+_, _<_, _≤_, _-_}
 use native.Mathlib.Nat.{add-zero, sub-zero, add-sub-cancel-left}
 use native.Mathlib.Omega.{arith}
 use lib.ListN.{take, drop}
-use Rattle.words.specs.Decide.{pick, _=?_, first, firstFrom}
+use Rattle.words.specs.Decide.{pick, _=?_, firstFrom}
 use Rattle.words.proofs.DecideLaws.{first-miss, first-hit, first-end}
 use Rattle.crc64.specs.Polynomial.{checksum}
 use Rattle.packet.specs.declared.Verdict.{Verdict}

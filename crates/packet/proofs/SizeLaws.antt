@@ -1,17 +1,16 @@
 -- Where parts stand, and what the walks over the sizes keep. Assumes nothing.
-use mathlib.Core.Path.{_≡_, refl, sym, _∙_, ap}
+use mathlib.Core.Path.{_≡_, sym, _∙_, ap}
 use mathlib.Core.Bool.{Bool, true, false, not, _&&_}
-use mathlib.Core.List.{List, [], _∷_, _++_, append-assoc}
-use Prim.Native.Nat.{ℕ, zero, suc, _+_, _*_, _<_, _≤_, _-_, _^_}
+use mathlib.Core.List.{List}
+use Prim.Native.Nat.{ℕ, zero, suc, _+_, _<_, _≤_, _-_}
 use native.Mathlib.Nat.{add-zero, sub-zero}
 use native.Mathlib.Numerals.{add-one}
 use native.Mathlib.Omega.{arith}
 use borrow.Author.Tests.{ltb-false}
-use lib.ListN.{length}
-use Rattle.words.specs.Decide.{pick, _=?_, _<?_, first, firstFrom}
+use Rattle.words.specs.Decide.{pick, _=?_, _<?_, firstFrom}
 use Rattle.words.proofs.DecideLaws.{first-miss, first-hit, first-end}
-use Rattle.packet.specs.Layout.{nullSize, largestPart, headers, size, taken, takenBefore, start}
-use Rattle.packet.specs.Reading.{isNull, tooLarge, firstTooLarge, entry, entriesFrom, nullLength}
+use Rattle.packet.specs.Layout.{nullSize, largestPart, size, taken, takenBefore}
+use Rattle.packet.specs.Reading.{tooLarge, firstTooLarge}
 
 module _ (s : List ℕ) where
   -- one part more

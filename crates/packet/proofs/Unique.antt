@@ -4,7 +4,7 @@ use mathlib.Core.Path.{_≡_, refl, sym, _∙_, ap}
 use mathlib.Core.List.{List}
 use Prim.Native.Nat.{ℕ}
 use lib.ListN.{getD}
-use Rattle.words.specs.Answer.{Answer, accepted, more, refused, afterwards}
+use Rattle.words.specs.Answer.{Answer, accepted, more, refused}
 use Rattle.words.specs.Statement.{OneResult}
 use Rattle.words.proofs.Unique.{equal-to-one}
 use Rattle.packet.specs.declared.PacketType.{PacketType}
@@ -14,7 +14,6 @@ use Rattle.packet.specs.declared.PacketError.the-variants.{Signature, Un
 use Rattle.packet.specs.declared.Packet.{Packet}
 use Rattle.packet.specs.declared.Decoded.{Decoded}
 use Rattle.packet.specs.declared.Decoded.the-variants.{Read, More, Refused}
-use Rattle.packet.specs.Reading.{entries}
 use Rattle.packet.specs.Paper.{typeNumber, typeOf, numberOf, valuesOf, errorOf, fieldsOf, paper}
 use Rattle.packet.specs.Statement.{Decodes, TellsVariableHeader}
 
@@ -65,7 +64,8 @@ paper-injective r r′ same = sym (paper-back r) ∙ ap back same ∙ paper-back
 pub decode-with-unique : (s : List ℕ) (limit ceiling : ℕ) (table : List ℕ) → OneResult (λ (x : Decoded × List ℕ). Decodes s limit ceiling table (x .0) (x .1))
 decode-with-unique s limit ceiling table x x′ p p′ =
     let same : paper (x .0) ≡ paper (x′ .0) = p .answer ∙ sym (p′ .answer) in
-    λ i. (paper-injective (x .0) (x′ .0) same i, (p .tables ∙ ap (λ (a : Answer). afterwards a (entries s) table) same ∙ sym (p′ .tables)) i)
+    let table-same : x .1 ≡ x′ .1 = p .tables ∙ rw same (sym (p′ .tables)) in
+    λ i. (paper-injective (x .0) (x′ .0) same i, table-same i)
 
 pub decode-unique : (s : List ℕ) (limit : ℕ) (table : List ℕ) → OneResult (λ (x : Decoded × List ℕ). Decodes s limit 65536 table (x .0) (x .1))
 decode-unique s limit table = decode-with-unique s limit 65536 table

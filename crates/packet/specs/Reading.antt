@@ -1,13 +1,12 @@
 -- Reading, from document 01: "Order: under 36 bytes, need-more; 1; 2; 5; 3 if n exceeds the smaller of 2^28 and the ceiling;
 -- without a variable header, accept 36 bytes whatever the byte limit; 8 if 44 + 12n exceeds it; need-more; 6; 4 at the first size
 -- above 2^30 that is not null; 8 for the whole length; need-more; 7 at the first failing part; 17." Assumes nothing.
-use Prim.Native.Nat.{ℕ, zero, suc, _+_, _*_, _/_, _^_, _-_, min}
+use Prim.Native.Nat.{ℕ, zero, suc, _+_, _/_, _^_, _-_, min}
 use mathlib.Core.Bool.{Bool, not, _&&_}
 use mathlib.Core.List.{List, [], _∷_, _++_}
 use lib.ListN.{length, take}
 use Rattle.words.specs.Decide.{pick, _=?_, _≠?_, _<?_, Line, _⇒_, decide, first}
 use Rattle.words.specs.Answer.{Answer, accepted, more, refused, refuse}
-use Rattle.words.specs.Buffer.{over}
 use Rattle.crc64.specs.Polynomial.{checksum}
 use Rattle.packet.specs.Layout.{packetSignature, nullSize, largestPart, mostParts, hasVariableHeader, headers, signature, type, count, fixedSum, fields, size, partSum, variable, variableSum, start, whole, part}
 

@@ -1,7 +1,7 @@
 -- What the private stages of reading hand on. A stage decides some lines of the reading order: what it refuses is what those
 -- lines answer, whatever stands behind them; where it goes on, they are silent. Assumes nothing.
 use Prim.Native.Nat.{ℕ, _+_, _*_, _≤_, _<_}
-use mathlib.Core.Bool.{Bool, true, false, not, _&&_}
+use mathlib.Core.Bool.{true, false, not, _&&_}
 use mathlib.Core.List.{List}
 use mathlib.Core.Path.{_≡_}
 use lib.ListN.{length}
@@ -21,7 +21,7 @@ use Rattle.packet.specs.declared.Parts.{Parts}
 use Rattle.packet.specs.declared.Parts.the-variants.{Failing, Good}
 use Rattle.packet.specs.declared.Decoded.{Decoded}
 use Rattle.packet.specs.Layout.{nullSize, largestPart, fields, size, takenBefore, partSum, start, whole, part}
-use Rattle.packet.specs.Reading.{fails, tooLarge, firstTooLarge, partFails, firstFailing, order, room as roomOf, entries}
+use Rattle.packet.specs.Reading.{fails, firstTooLarge, firstFailing, order, room as roomOf, entries}
 use Rattle.packet.specs.Paper.{refusal, fieldsOf, paper}
 
 -- `lines` lines of the order from line `from` on, and then `rest`

@@ -12,7 +12,7 @@ ghost use Rattle.words.specs.Decide.{pick, _=?_, _<?_};
 ghost use Rattle.words.specs.Buffer.{over};
 ghost use Rattle.crc64.specs.Statement.{TableIs};
 ghost use Rattle.packet.specs.Layout as Layout;
-ghost use Rattle.packet.specs.Layout.{nullSize, largestPart, mostParts, headers, type, fields, whole, hasVariableHeader};
+ghost use Rattle.packet.specs.Layout.{nullSize, largestPart, mostParts, headers, type, fields, whole};
 ghost use Rattle.packet.specs.Reading.{nullLength, entriesFrom};
 ghost use Rattle.packet.specs.Paper.{typeNumber, fieldsOf};
 ghost use Rattle.packet.specs.Statement.{Decodes, TellsVariableHeader};

@@ -4,13 +4,12 @@ use mathlib.Core.Path.{_≡_, refl, sym, _∙_, ap, subst}
 use mathlib.Core.List.{List, [], _++_, append-assoc, append-nil}
 use Prim.Native.Nat.{ℕ, _+_, _-_, _≤_}
 use native.Mathlib.Omega.{arith}
-use lib.ListN.{length, take, drop, length-append, length-drop, drop-of-length-le, take-append-drop}
-use lib.Seq.{take-all, take-at, length-take-le, drop-drop}
-use borrow.Rule.Slice.PartMut.{midOf, putMid}
+use lib.ListN.{length, take, drop, length-append, take-append-drop}
+use lib.Seq.{take-at, length-take-le, drop-drop}
 use Rattle.words.specs.Word.{bytesOf}
-use Rattle.words.specs.Buffer.{over, fitted}
+use Rattle.words.specs.Buffer.{over}
 use Rattle.words.proofs.WordLaws.{length-bytesOf}
-use Rattle.words.proofs.BufferLaws.{fitted-fits, length-over, over-tail}
+use Rattle.words.proofs.BufferLaws.{over-tail}
 use Rattle.crc64.specs.Polynomial.{checksum}
 use Rattle.packet_table.specs.Wire.{sealed}
 use Rattle.words.specs.Filling.{Filling}

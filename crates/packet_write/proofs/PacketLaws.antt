@@ -7,7 +7,7 @@ use native.Mathlib.Omega.{arith}
 use lib.ListN.{length, length-append}
 use borrow.Author.Tests.{lt-ltb, le-ltb}
 use Rattle.words.specs.Decide.{pick, decide}
-use Rattle.words.specs.Answer.{Answer, accepted, more, refused, refuse}
+use Rattle.words.specs.Answer.{Answer, accepted, refuse}
 use Rattle.words.specs.Buffer.{over}
 use Rattle.words.proofs.DecideLaws.{decide-append}
 use Rattle.packet.specs.Layout.{hasVariableHeader}

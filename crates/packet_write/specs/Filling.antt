@@ -1,12 +1,9 @@
 -- What the private writers speak of: the size words by the table's entries.
 -- Assumes nothing.
-use Prim.Native.Nat.{ℕ, zero, suc, _+_, _≤_}
+use Prim.Native.Nat.{ℕ, zero, suc, _+_}
 use mathlib.Core.List.{List, [], _++_}
-use mathlib.Core.Path.{_≡_}
-use lib.ListN.{length}
 use Rattle.words.specs.Decide.{pick}
 use Rattle.words.specs.Word.{bytesOf}
-use Rattle.words.specs.Buffer.{over}
 use Rattle.packet.specs.Layout.{nullSize}
 use Rattle.packet_table.specs.Entries.{isNull, offsetAt, sizeAt}
 

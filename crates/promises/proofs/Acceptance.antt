@@ -1,20 +1,19 @@
 -- The packet reader accepts exactly what is acceptable. Assumes nothing.
 use mathlib.Core.Path.{_≡_, refl, sym, _∙_, ap}
-use mathlib.Core.Bool.{Bool, true, false, not, _&&_, true≢false, false≢true}
-use mathlib.Core.List.{List, [], _∷_}
+use mathlib.Core.Bool.{Bool, true, false, not, _&&_, false≢true}
+use mathlib.Core.List.{List, []}
 use mathlib.Core.Logic.{⊎-elim, _⊎_, inl, inr}
-use Prim.Native.Nat.{ℕ, _+_, _<_, _≤_, min}
+use Prim.Native.Nat.{ℕ, _<_, min}
 use native.Mathlib.Omega.{arith}
 use native.Mathlib.Nat.{zero-add}
-use borrow.Author.Tests.{ltb-false, le-ltb, eq-eqb, ne-eqb, eqb-true, eqb-false, not-false}
-use lib.Dec.{ltb, eqb}
+use borrow.Author.Tests.{ltb-false, le-ltb, eq-eqb, eqb-true, not-false}
 use lib.ListN.{length, take}
 use Rattle.words.specs.Answer.{Answer, accepted, more, refused}
 use Rattle.words.specs.Decide.{pick, _=?_, _≠?_, _<?_, decide, first}
 use Rattle.words.proofs.DecideLaws.{first-none, first-all}
 use Rattle.crc64.specs.Polynomial.{checksum}
 use Rattle.packet.specs.Layout.{packetSignature, nullSize, largestPart, mostParts, hasVariableHeader, headers, signature, type, count, fixedSum, fields, size, partSum, variable, variableSum, whole, part}
-use Rattle.packet.specs.Reading.{fails, isNull, tooLarge, partFails, firstTooLarge, firstFailing, order, reading}
+use Rattle.packet.specs.Reading.{fails, isNull, tooLarge, partFails, order, reading}
 use Rattle.promises.specs.Acceptance.{Guards, FixedHeader, VariableHeader, Acceptable, consumed, Acceptance}
 use Rattle.promises.proofs.Lines.{Before, Behind, lines-before, lines-behind, pass-bare, pass-all}
 

@@ -4,24 +4,24 @@ use mathlib.Core.Path.{_≡_, refl, sym, _∙_, ap}
 use mathlib.Core.Bool.{Bool, true, false, not, _&&_, or-true}
 use mathlib.Core.List.{List, [], _∷_}
 use mathlib.Core.Logic.{⊎-elim, inl, inr}
-use Prim.Native.Nat.{ℕ, zero, suc, _+_, _*_, _<_, _≤_, min}
-use native.Mathlib.Nat.{zero-add, le-trans}
+use Prim.Native.Nat.{ℕ, zero, suc, _+_, _*_, _<_, _≤_}
+use native.Mathlib.Nat.{zero-add}
 use native.Mathlib.Omega.{arith}
-use borrow.Author.Tests.{ltb-false, le-ltb, lt-ltb, ne-eqb}
+use borrow.Author.Tests.{lt-ltb, ne-eqb}
 use lib.ListN.{length, take, drop}
 use Rattle.words.specs.Word.{word, Bytes}
-use Rattle.words.specs.Answer.{Answer, accepted, more, refused, refuse, NotTaken}
+use Rattle.words.specs.Answer.{Answer, accepted, refuse, NotTaken}
 use Rattle.words.specs.Buffer.{stretch}
-use Rattle.words.specs.Decide.{pick, _=?_, _≠?_, _<?_, decide, first}
-use Rattle.words.proofs.DecideLaws.{first-none, first-at, first-same}
+use Rattle.words.specs.Decide.{pick, _=?_, _≠?_, _<?_, decide}
+use Rattle.words.proofs.DecideLaws.{first-at, first-same}
 use Rattle.crc64.specs.Polynomial.{checksum}
 use Rattle.crc64.specs.Damage.{Damaged}
-use Rattle.packet.specs.Layout.{packetSignature, nullSize, largestPart, mostParts, hasVariableHeader, headers, signature, type, count, fixedSum, fields, size, taken, takenBefore, partSum, variable, variableSum, start, whole, part}
+use Rattle.packet.specs.Layout.{packetSignature, nullSize, largestPart, hasVariableHeader, headers, signature, type, count, fixedSum, fields, size, taken, takenBefore, partSum, variable, variableSum, start, whole, part}
 use Rattle.packet.specs.Paper.{paper, fieldsOf}
 use Rattle.promises.proofs.TablesKeep.{packet-tables-keep}
 use Rattle.packet.specs.Reading.{room, fails, isNull, tooLarge, partFails, firstTooLarge, firstFailing, order, reading}
 use Rattle.packet.proofs.SizeLaws.{taken-below}
-use Rattle.promises.specs.Damage.{Stretch, fixedHeader, variableHeader, partAt, Has, from, long, stored, Names, DamageIsNamed, DecodeNamesDamage}
+use Rattle.promises.specs.Damage.{Stretch, fixedHeader, variableHeader, partAt, Names, DamageIsNamed, DecodeNamesDamage}
 use Rattle.promises.proofs.Agreement.{same-word, same-stretch, other-checksum}
 use Rattle.promises.proofs.Acceptance.{guards, present, none-of, not-null}
 use Rattle.promises.proofs.Lines.{Before, Behind, lines-before, lines-behind, pass-before}

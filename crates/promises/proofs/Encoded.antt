@@ -1,33 +1,28 @@
 -- What `encode` says it wrote is read back. Assumes nothing.
 use mathlib.Core.Path.{_≡_, refl, sym, _∙_, ap}
 use mathlib.Core.Bool.{Bool, true, false}
-use mathlib.Core.List.{List, [], _∷_, _++_}
-use Prim.Native.Nat.{ℕ, zero, suc, _+_, _^_, _<_, _≤_}
+use mathlib.Core.List.{List, [], _∷_}
+use Prim.Native.Nat.{ℕ, zero, suc, _+_, _<_, _≤_}
 use native.Mathlib.Nat.{add-zero, zero-add}
 use native.Mathlib.Omega.{arith}
-use lib.ListN.{length, getD, take, drop}
+use lib.ListN.{length, getD, take}
 use lib.Seq.{take-at}
-use Rattle.words.specs.Answer.{Answer, accepted, more, refused}
+use Rattle.words.specs.Answer.{accepted, refused}
 use Rattle.words.specs.Decide.{pick, _<?_, decide}
 use Rattle.words.proofs.DecideLaws.{decide-append}
-use Rattle.guid.specs.declared.Guid.{Guid}
-use Rattle.guid.specs.Guid.{Fitting}
 use Rattle.packet.specs.declared.PacketType.{PacketType}
 use Rattle.packet.specs.declared.PacketType.the-variants.{Message as Plain, Ack, SslAck}
-use Rattle.packet.specs.declared.PacketFlags.{PacketFlags}
-use Rattle.packet.specs.Layout.{largestPart, mostParts}
-use Rattle.packet.specs.Reading.{reading, room}
+use Rattle.packet.specs.Layout.{largestPart}
+use Rattle.packet.specs.Reading.{room}
 use Rattle.packet.specs.Paper.{typeNumber}
-use Rattle.packet_table.specs.Wire.{Part, null, content, packetSize, partAt, partsFrom, partsOf}
-use Rattle.packet_table.specs.Entries.{offsetAt, sizeAt, tooLargeAt, outsideAt}
+use Rattle.packet_table.specs.Wire.{null, content, packetSize, partAt, partsFrom, partsOf}
+use Rattle.packet_table.specs.Entries.{offsetAt, sizeAt}
 use Rattle.packet_table.specs.Checks.{Passes, checks}
 use Rattle.packet_table.proofs.CheckLaws.{passes}
 use Rattle.packet_table.proofs.WireLaws.{taken-most, small-at, inside-at, length-content, length-parts}
-use Rattle.packet_write.specs.declared.Encoded.the-variants.{Written}
 use Rattle.packet_write.specs.Writing.{writing, roomCheck}
-use Rattle.packet_write.specs.Statement.{Encodes, bytesFor}
 use Rattle.packet_write.proofs.PieceLaws.{length-packet}
-use Rattle.promises.specs.RoundTrip.{Message, wire, wireSize, Valid, Held, given, EncodeThenDecode}
+use Rattle.promises.specs.RoundTrip.{wire, wireSize, Valid, given, EncodeThenDecode}
 use Rattle.promises.proofs.RoundTrip.{round-trip}
 
 known-type : (t : PacketType) → typeNumber t ≤ 2

@@ -1,13 +1,13 @@
 -- What an accepted answer says of the reading order: the lines that refuse or ask for more are silent. Assumes nothing.
 use mathlib.Core.Path.{_≡_, refl, sym, _∙_, ap}
-use mathlib.Core.Bool.{Bool, true, false, not, true≢false, false≢true}
+use mathlib.Core.Bool.{Bool, true, false, true≢false}
 use mathlib.Core.List.{List}
-use Prim.Native.Nat.{ℕ, _+_, _*_, _<_, _≤_, min}
+use Prim.Native.Nat.{ℕ, _<_, min}
 use lib.ListN.{length, take, drop}
 use Rattle.words.specs.Answer.{Answer, accepted, more, refused}
-use Rattle.words.specs.Decide.{pick, _=?_, _≠?_, _<?_, decide}
-use Rattle.packet.specs.Layout.{packetSignature, mostParts, hasVariableHeader, headers, signature, type, count, fixedSum, fields, variable, variableSum, whole}
-use Rattle.packet.specs.Reading.{fails, firstTooLarge, firstFailing, order, reading}
+use Rattle.words.specs.Decide.{pick, _≠?_, _<?_, decide}
+use Rattle.packet.specs.Layout.{packetSignature, mostParts, hasVariableHeader, headers, signature, type, fixedSum, fields, variable, variableSum, whole}
+use Rattle.packet.specs.Reading.{fails, firstTooLarge, firstFailing, order}
 
 abbrev isAccepted : Answer → Bool
 isAccepted (accepted n f) = true

@@ -3,19 +3,18 @@ use mathlib.Core.Path.{_≡_, refl, sym, _∙_, ap}
 use mathlib.Core.Bool.{Bool, true, false, not, _&&_}
 use mathlib.Core.List.{List, [], _++_, append-nil}
 use mathlib.Core.Logic.{⊎-elim}
-use Prim.Native.Nat.{ℕ, zero, suc, _+_, _*_, _-_, _<_, _≤_, min}
-use native.Mathlib.Nat.{zero-add, min-eq-left}
+use Prim.Native.Nat.{ℕ, zero, suc, _+_, _*_, _-_, _<_, _≤_}
+use native.Mathlib.Nat.{zero-add}
 use native.Mathlib.Omega.{arith}
 use borrow.Author.Tests.{lt-ltb, le-ltb}
-use lib.ListN.{length, getD, take, drop, length-take, length-drop, length-append}
+use lib.ListN.{length, getD, take, drop, length-take, length-drop}
 use lib.Seq.{ext-getD, getD-take, getD-drop, take-take, length-take-le}
 use Rattle.words.specs.Answer.{Answer, accepted, more}
-use Rattle.words.specs.Word.{word}
 use Rattle.words.specs.Buffer.{stretch}
-use Rattle.words.specs.Decide.{pick, _=?_, _≠?_, _<?_, decide}
+use Rattle.words.specs.Decide.{_=?_, _<?_, decide}
 use Rattle.words.proofs.WordLaws.{word-take}
 use Rattle.words.proofs.DecideLaws.{first-same, le-or-gt}
-use Rattle.packet.specs.Layout.{packetSignature, nullSize, largestPart, hasVariableHeader, headers, signature, type, count, fixedSum, fields, size, taken, takenBefore, variable, variableSum, whole}
+use Rattle.packet.specs.Layout.{nullSize, largestPart, hasVariableHeader, headers, type, count, fields, size, takenBefore, variable, variableSum, whole}
 use Rattle.packet.specs.Reading.{fails, tooLarge, firstTooLarge, order, reading}
 use Rattle.packet_table.specs.Wire.{packetSize}
 use Rattle.promises.specs.RoundTrip.{Message, wire, wireSize, Valid, Held, StrictPrefix}

@@ -1,23 +1,19 @@
 -- Writing a packet and reading it: what comes back. Assumes nothing.
 use mathlib.Core.Path.{_≡_, refl, sym, _∙_, ap}
-use mathlib.Core.Bool.{Bool, true, false, not, _&&_, or-true}
+use mathlib.Core.Bool.{Bool, true, false, or-true}
 use mathlib.Core.List.{List, [], _∷_, _++_, append-assoc}
-use mathlib.Core.Logic.{⊎-elim, inl, inr}
-use Prim.Native.Nat.{ℕ, zero, suc, _+_, _*_, _^_, _-_, _<_, _≤_, min}
+use mathlib.Core.Logic.{inr}
+use Prim.Native.Nat.{ℕ, zero, suc, _+_, _*_, _-_, _<_, _≤_}
 use native.Mathlib.Nat.{add-zero, add-assoc, le-min}
-use native.Mathlib.Numerals.{add-one}
 use native.Mathlib.Omega.{arith}
-use borrow.Author.Tests.{eq-eqb, ne-eqb, lt-ltb}
+use borrow.Author.Tests.{ne-eqb, lt-ltb}
 use lib.ListN.{length, getD, take, drop, length-append}
 use lib.Seq.{take-at, drop-at, drop-drop, take-suc, take-length}
 use Rattle.words.proofs.WordLaws.{length-bytesOf}
-use Rattle.words.specs.Answer.{accepted, more}
 use Rattle.words.specs.Word.{word, bytesOf}
-use Rattle.words.specs.Buffer.{stretch}
 use Rattle.words.specs.Decide.{pick, _=?_}
 use Rattle.crc64.specs.Polynomial.{checksum}
-use Rattle.packet.specs.Layout.{packetSignature, nullSize, largestPart, mostParts, hasVariableHeader, headers, signature, type, flags, count, fixedSum, fields, size, taken, takenBefore, partSum, variable, variableSum, start, whole, part}
-use Rattle.packet.specs.Reading.{reading}
+use Rattle.packet.specs.Layout.{packetSignature, nullSize, largestPart, hasVariableHeader, headers, signature, type, flags, count, fixedSum, fields, size, taken, takenBefore, partSum, variable, variableSum, whole, part}
 use Rattle.packet_table.specs.Wire.{Part, null, bytes, sizeWord, sumWord, content, sizes, sums, contents, idBytes, sealed, fixedFields, body, packetBytes, packetSize}
 use Rattle.promises.specs.Acceptance.{FixedHeader, VariableHeader, Acceptable, consumed}
 use Rattle.promises.specs.RoundTrip.{Message, wire, wireSize, Valid, Held, ReadsPart, RoundTrip}

@@ -1,8 +1,7 @@
 -- Every row in its place: the rowsets' theorems, from the laws of the crates that define reading and writing. Assumes nothing.
 use mathlib.Core.Path.{_≡_, refl, sym, _∙_, ap}
-use mathlib.Core.Bool.{Bool, true, false, true≢false, false≢true}
-use mathlib.Core.List.{List, []}
-use Prim.Native.Nat.{ℕ, _≤_}
+use mathlib.Core.Bool.{Bool, true, false, false≢true}
+use mathlib.Core.List.{[]}
 use borrow.Author.Tests.{ltb-false, le-ltb}
 use lib.ListN.{length, take}
 use lib.Seq.{take-at}

@@ -1,19 +1,16 @@
 -- What the words of a written packet are, read where the layout has them. Assumes nothing.
-use mathlib.Core.Path.{_≡_, refl, sym, _∙_, ap}
-use mathlib.Core.Bool.{Bool, true, false}
+use mathlib.Core.Path.{_≡_, sym, _∙_, ap}
 use mathlib.Core.List.{List, [], _∷_, _++_, append-assoc}
 use Prim.Native.Nat.{ℕ, zero, suc, _+_, _*_, _^_, _-_, _<_, _≤_}
-use native.Mathlib.Nat.{add-zero, add-assoc, mod-eq-of-lt}
+use native.Mathlib.Nat.{mod-eq-of-lt}
 use native.Mathlib.Omega.{arith}
-use borrow.Author.Tests.{eq-eqb, ne-eqb}
 use lib.ListN.{length, getD, take, drop, length-append}
-use lib.Seq.{take-at, drop-at, drop-append-add, take-append-seam}
+use lib.Seq.{drop-append-add, take-append-seam}
 use Rattle.words.specs.Word.{word, bytesOf}
-use Rattle.words.specs.Decide.{pick, _=?_}
 use Rattle.words.proofs.WordLaws.{word-behind, word-bytesOf, length-bytesOf}
 use Rattle.crc64.specs.Polynomial.{checksum}
 use Rattle.crc64.proofs.Folding.{fold-lt}
-use Rattle.packet.specs.Layout.{nullSize, largestPart, size, taken, takenBefore, partSum, start, part, headers}
+use Rattle.packet.specs.Layout.{largestPart}
 use Rattle.packet_table.specs.Wire.{Part, null, bytes, sizeWord, sumWord, content, sizes, sums, contents}
 
 -- the word that stands at the front

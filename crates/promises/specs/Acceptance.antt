@@ -1,12 +1,12 @@
 -- What the packet reader accepts is exactly this: a front that the layout describes, each checksum word 0 or its stretch's
 -- checksum, within the limits and the room. Assumes nothing.
 use Prim.Native.Nat.{ℕ, _≤_, _<_, min}
-use mathlib.Core.Bool.{Bool, true, false, not}
+use mathlib.Core.Bool.{true}
 use mathlib.Core.List.{List}
 use mathlib.Core.Path.{_≡_}
 use mathlib.Core.Logic.{_⊎_}
 use lib.ListN.{length, take}
-use Rattle.words.specs.Answer.{Answer, accepted}
+use Rattle.words.specs.Answer.{accepted}
 use Rattle.words.specs.Decide.{pick}
 use Rattle.crc64.specs.Polynomial.{checksum}
 use Rattle.packet.specs.Layout.{packetSignature, nullSize, largestPart, mostParts, hasVariableHeader, headers, signature, type, count, fixedSum, fields, size, partSum, variable, variableSum, whole, part}

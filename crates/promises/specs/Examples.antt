@@ -4,7 +4,7 @@ use Prim.Native.Nat.{ℕ, _^_, _-_}
 use mathlib.Core.Bool.{Bool, true, false, _&&_}
 use mathlib.Core.List.{List, [], _∷_, _++_}
 use lib.Dec.{eqb}
-use lib.ListN.{length, take}
+use lib.ListN.{take}
 use Rattle.words.specs.Word.{bytesOf}
 use Rattle.words.specs.Answer.{Answer, accepted, more, refused, refuse}
 use Rattle.crc64.specs.Polynomial.{checksum}

@@ -1,7 +1,7 @@
 -- Demand 2 for rowsets: every row in its place. A lookup answers one row per event in the order asked, and a null row for an
 -- event without terms; fold one away, and each later glossary slides to its neighbour's title. Assumes nothing.
 use Prim.Native.Nat.{ℕ, _+_, _*_, _^_, _≤_, _<_}
-use mathlib.Core.Bool.{Bool, true}
+use mathlib.Core.Bool.{true}
 use mathlib.Core.List.{List}
 use mathlib.Core.Path.{_≡_}
 use lib.ListN.{length, getD, take}

@@ -9,7 +9,6 @@ use borrow.Author.Tests.{lt-ltb, le-ltb}
 use Rattle.words.specs.Buffer.{over}
 use Rattle.words.proofs.BufferLaws.{fitted-sets, fitted-fits}
 use Rattle.wire_value.specs.Layout.{countAt, nextRows, valueCount, rowWords, valueWords}
-use Rattle.wire_value.specs.Refusal.{paper}
 use Rattle.wire_value.proofs.Unique.{paper-keeps}
 use Rattle.wire_value.specs.declared.error.WireError.{WireError}
 use Rattle.wire_value.specs.declared.error.WireError.the-variants.{NoRoom}

@@ -12,7 +12,7 @@ use lib.Seq.{drop-cons}
 use borrow.Author.Tests.{ltb-true, ltb-false, eqb-true, eqb-false, lt-ltb, le-ltb, eq-eqb, ne-eqb}
 use Rattle.words.specs.Decide.{firstFrom}
 use Rattle.words.proofs.DecideLaws.{first-miss, first-hit, first-end, first-none}
-use Rattle.wire_value.specs.Layout.{nullMark, maxRows, entryWords, blob, known, valuesIn}
+use Rattle.wire_value.specs.Layout.{maxRows, entryWords, blob, known, valuesIn}
 use Rattle.wire_value.proofs.TypeLaws.{known-null, known-scalar, known-blob, unknown-low, unknown-middle, unknown-high, blob-yes, blob-low}
 use Rattle.wire_value.specs.declared.error.WireError.the-variants.{TooManyRows, BadTable}
 use Rattle.wire_table.specs.Writing.{entriesIn, total, bad, badEntry, firstBad, tableOrder}

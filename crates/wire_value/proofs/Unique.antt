@@ -3,7 +3,7 @@ use mathlib.Core.Path.{_≡_, refl, sym, _∙_, ap}
 use mathlib.Core.List.{List}
 use Prim.Native.Nat.{ℕ}
 use native.Mathlib.Omega.{arith}
-use Rattle.words.specs.Answer.{Answer, accepted, more, refused, afterwards}
+use Rattle.words.specs.Answer.{accepted, more, afterwards}
 use Rattle.words.specs.Statement.{OneResult}
 use Rattle.words.proofs.AnswerLaws.{isRefused}
 use Rattle.words.proofs.Unique.{equal-to-one}

@@ -6,7 +6,6 @@ use native.Mathlib.Omega.{arith}
 use lib.ListN.{length}
 use borrow.Author.Tests.{lt-ltb, le-ltb}
 use Rattle.wire_value.specs.Layout.{entryWords, rowsetBytes}
-use Rattle.wire_value.specs.Refusal.{paper}
 use Rattle.wire_value.specs.declared.error.WireError.{WireError}
 use Rattle.wire_value.specs.declared.error.WireError.the-variants.{NoRoom}
 use Rattle.wire_value.proofs.Unique.{paper-keeps}

@@ -1,12 +1,12 @@
 -- The laws of an output that is filled piece by piece, for writers that answer how many bytes they put. Assumes nothing.
-use mathlib.Core.Path.{_≡_, refl, sym, _∙_, ap}
+use mathlib.Core.Path.{_≡_, sym, _∙_, ap}
 use mathlib.Core.List.{List, [], _++_, append-nil}
 use Prim.Native.Nat.{ℕ, _+_, _-_, _≤_}
 use native.Mathlib.Omega.{arith}
 use lib.ListN.{length, length-append}
 use borrow.Rule.Slice.PartMut.{midOf, putMid}
 use Rattle.words.specs.Word.{bytesOf}
-use Rattle.words.specs.Buffer.{over, fitted}
+use Rattle.words.specs.Buffer.{fitted}
 use Rattle.words.proofs.WordLaws.{length-bytesOf}
 use Rattle.words.proofs.BufferLaws.{fitted-fits}
 use Rattle.words.proofs.FillingLaws as Laws

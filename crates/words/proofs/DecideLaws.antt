@@ -1,10 +1,10 @@
 -- Laws of decision lists and of the first number that passes a test. Assumes nothing.
-use mathlib.Core.Path.{_≡_, refl, sym, _∙_, ap, subst}
+use mathlib.Core.Path.{_≡_, refl, sym, _∙_, ap}
 use mathlib.Core.Bool.{Bool, true, false, true≢false}
 use mathlib.Core.List.{List, [], _∷_, _++_}
 use mathlib.Core.Logic.{⊎-elim, _⊎_, inl, inr}
 use Prim.Native.Nat.{ℕ, zero, suc, _+_, _<_, _≤_, _-_}
-use native.Mathlib.Nat.{zero-add, add-zero, sub-self, eq-or-lt-of-le, lt-of-not-le}
+use native.Mathlib.Nat.{add-zero, sub-self, eq-or-lt-of-le, lt-of-not-le}
 use native.Mathlib.Decide.{decLe}
 use native.Mathlib.Omega.{arith}
 use Rattle.words.specs.Decide.{pick, Line, _⇒_, decide, firstFrom, first}

@@ -1,11 +1,11 @@
 -- Laws of words and bytes, each over the width. Assumes nothing.
-use mathlib.Core.Path.{_≡_, refl, sym, _∙_, ap, subst}
+use mathlib.Core.Path.{_≡_, refl, sym, _∙_, ap}
 use mathlib.Core.List.{List, [], _∷_, _++_}
 use Prim.Native.Nat.{ℕ, zero, suc, _+_, _*_, _/_, _%_, _^_, _<_, _≤_, _-_}
-use native.Mathlib.Nat.{zero-add, add-zero, add-assoc, suc-add, add-suc, one-mul, mul-add, mul-assoc, pow-succ', zero-mod, zero-div, mod-one, mul-add-mod-self-left, mul-add-div, mod-eq-of-lt, div-eq-of-lt, mod-lt, div-div-eq-div-mul, div-add-mod, mul-le-mul-left, mul-pos, mod-add-div, add-mul-mod-self-left, add-mul-div-left, div-lt-iff-lt-mul, mul-comm, le-trans, add-comm, div-one}
+use native.Mathlib.Nat.{zero-add, add-zero, add-assoc, suc-add, one-mul, mul-assoc, pow-succ', mod-one, mod-eq-of-lt, div-eq-of-lt, mod-lt, div-div-eq-div-mul, mod-add-div, add-mul-mod-self-left, add-mul-div-left, add-comm, div-one}
 use native.Mathlib.Numerals.{add-one}
 use native.Mathlib.Omega.{arith}
-use lib.ListN.{length, getD, take, drop, length-append, List·getD-eq-default, List·getD-append}
+use lib.ListN.{length, getD, take, drop, List·getD-eq-default, List·getD-append}
 use lib.Seq.{drop-cons, getD-drop, getD-take, getD-append-add}
 use Rattle.words.specs.Word.{word, bytesOf, Bytes}
 

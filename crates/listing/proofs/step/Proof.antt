@@ -1,7 +1,6 @@
 -- `step` meets its contract, one return a line: the laws put the reader's answer and the lines together.
 -- Assumes nothing.
 use native.Mathlib.Omega.{arith}
-use mathlib.Core.Path.{_∙_}
 use Rattle.listing.proofs.WalkLaws.{text-fits, listed-short, listed-end, listed-more, listed-refused, parts-few, parts-held, goes-on, listed-read}
 use borrow.Author.Needs.{needs}
 use Rattle.listing.proofs.step.Statement.{statement}

@@ -1,6 +1,5 @@
 -- `body` meets its contract, one return a line: the laws put the stages' words together.
 -- Assumes nothing.
-use Prim.Native.Nat.{_≤_}
 use native.Mathlib.Omega.{arith}
 use Rattle.packet.proofs.BodyLaws.{body-more, body-refused, body-fails, body-no-room, body-read}
 use borrow.Author.Needs.{needs}

@@ -1,10 +1,9 @@
 -- `check_parts` meets its contract. The invariant: the next part begins at `at`, and no part before it fails.
 -- Assumes nothing.
-use mathlib.Core.Path.{_≡_, refl}
-use Prim.Native.Nat.{_+_, _*_, _≤_, _-_}
+use mathlib.Core.Path.{_≡_}
+use Prim.Native.Nat.{_≤_, _-_}
 use native.Mathlib.Omega.{arith}
 use borrow.Author.Needs.{needs}
-use lib.ListN.{length}
 use Rattle.words.specs.Decide.{firstFrom}
 use Rattle.packet.specs.Layout.{start}
 use Rattle.packet.specs.Reading.{partFails, firstFailing}

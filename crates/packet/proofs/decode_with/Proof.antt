@@ -1,7 +1,5 @@
 -- `decode_with` meets its contract, one return a line: the laws put the stages' words together.
 -- Assumes nothing.
-use mathlib.Core.Path.{_≡_, _∙_}
-use Prim.Native.Nat.{_≤_, min}
 use native.Mathlib.Omega.{arith}
 use Rattle.packet.proofs.BodyLaws.{parts-counted, read-more, read-refused, read-too-many, read-bare, read-body}
 use borrow.Author.Needs.{needs}

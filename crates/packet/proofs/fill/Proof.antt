@@ -1,10 +1,10 @@
 -- `fill` meets its contract. The invariant: the next part begins at `at`, and the entries of those before it stand over the table's front.
 -- Assumes nothing.
 use mathlib.Core.Path.{_≡_, refl, ap, _∙_}
-use Prim.Native.Nat.{ℕ, _+_, _*_, _≤_, _-_}
+use Prim.Native.Nat.{ℕ, _≤_, _-_}
 use native.Mathlib.Omega.{arith}
 use borrow.Author.Needs.{needs}
-use lib.ListN.{length, length-set}
+use lib.ListN.{length-set}
 use Rattle.words.specs.Buffer.{over}
 use Rattle.packet.specs.Layout.{start}
 use Rattle.packet.specs.Reading.{entriesFrom}

@@ -1,9 +1,7 @@
 -- `fixed_header` meets its contract: the first four lines of the order, one return each.
 -- Assumes nothing.
 use mathlib.Core.Path.{sym}
-use Prim.Native.Nat.{_≤_}
 use native.Mathlib.Omega.{arith}
-use lib.ListN.{length}
 use lib.Seq.{length-take-le}
 use Rattle.packet.proofs.OrderLaws.{fixed-more, fixed-signature, fixed-type, fixed-fails, fixed-passes}
 use borrow.Author.Needs.{needs}

@@ -2,11 +2,10 @@ use borrow.Author.Needs.{needs}
 -- `payload` meets its contract. The invariant: so far no size is too large, and the payload is what those parts take.
 -- Assumes nothing.
 use mathlib.Core.Path.{_≡_, refl}
-use Prim.Native.Nat.{_+_, _*_, _≤_, _-_}
+use Prim.Native.Nat.{_*_, _≤_, _-_}
 use native.Mathlib.Omega.{arith}
-use lib.ListN.{length}
 use Rattle.words.specs.Decide.{firstFrom}
-use Rattle.packet.specs.Layout.{headers, mostParts, largestPart, takenBefore}
+use Rattle.packet.specs.Layout.{largestPart, takenBefore}
 use Rattle.packet.specs.Reading.{tooLarge, firstTooLarge}
 use Rattle.packet.proofs.SizeLaws.{taken-next, taken-small, sizes-begin, sizes-hit, sizes-miss, sizes-end}
 use Rattle.packet.proofs.payload.Statement.{statement}

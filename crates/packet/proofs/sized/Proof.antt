@@ -3,7 +3,7 @@
 use mathlib.Core.Path.{_≡_, ap}
 use Prim.Native.Nat.{ℕ, _+_, _*_}
 use native.Mathlib.Omega.{arith}
-use Rattle.packet.specs.Layout.{headers, whole}
+use Rattle.packet.specs.Layout.{whole}
 use Rattle.packet.proofs.OrderLaws.{sized-large, sized-long, sized-more, sized-passes}
 use borrow.Author.Needs.{needs}
 use Rattle.packet.proofs.sized.Statement.{statement}

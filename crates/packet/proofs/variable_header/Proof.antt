@@ -1,8 +1,8 @@
 -- `variable_header` meets its contract: the lines before its checksum, the checksum, and what is behind it.
 -- Assumes nothing.
-use mathlib.Core.Path.{_≡_, refl, _∙_}
+use mathlib.Core.Path.{refl}
 use native.Mathlib.Nat.{add-sub-cancel-left}
-use Prim.Native.Nat.{ℕ, _*_}
+use Prim.Native.Nat.{_*_}
 use Rattle.packet.proofs.OrderLaws.{headers-long, headers-more, variable-fails, variable-passes, behind-variable}
 use borrow.Author.Needs.{needs}
 use Rattle.packet.proofs.variable_header.Statement.{statement}

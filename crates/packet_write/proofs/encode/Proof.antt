@@ -1,9 +1,8 @@
 -- `encode` meets its contract: what `encoded_size` refuses is refused, what has not the room too, and the rest is written.
 -- Assumes nothing.
 use mathlib.Core.Path.{refl}
-use Rattle.packet.specs.Paper.{typeNumber, refusal}
+use Rattle.packet.specs.Paper.{typeNumber}
 use Rattle.packet_table.proofs.CheckLaws.{sized}
-use Rattle.packet_write.specs.Statement.{bytesFor}
 use Rattle.packet_write.proofs.PacketLaws.{writing-refuses, writing-short, writing-accepts, packet-fits}
 use lib.ListN.{length}
 use borrow.Author.Needs.{needs}

@@ -1,11 +1,9 @@
 -- `decoded` meets its contract. Assumes nothing.
 use Rattle.face.proofs.OutcomeLaws.{case}
-use mathlib.Core.Path.{refl, ap}
+use mathlib.Core.Path.{ap}
 use Prim.Native.Nat.{ℕ}
-use mathlib.Core.List.{_∷_, []}
 use Rattle.packet.specs.declared.Packet.{Packet}
-use Rattle.packet.specs.Paper.{paper, fieldsOf}
-use Rattle.face.specs.declared.outcome.Outcome.{Outcome}
+use Rattle.packet.specs.Paper.{paper}
 use borrow.Author.Needs.{needs}
 use Rattle.face.proofs.flat.decoded.Statement.{statement}
 use Rattle.face.proofs.flat.decoded.Tie as tie

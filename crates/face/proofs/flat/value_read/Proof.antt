@@ -1,6 +1,5 @@
 -- `value_read` meets its contract. Assumes nothing.
 use Rattle.face.proofs.OutcomeLaws.{case}
-use mathlib.Core.Path.{_≡_}
 use Rattle.wire_value.specs.Statement.{paperValue}
 use borrow.Author.Needs.{needs}
 use Rattle.face.proofs.flat.value_read.Statement.{statement}

@@ -1,9 +1,8 @@
 -- `cablefinch_guid_halves` meets its contract. Assumes nothing.
 use mathlib.Core.Path.{_∙_, ap}
 use mathlib.Core.List.{_∷_, []}
-use Rattle.guid.specs.declared.Guid.{Guid}
 use Rattle.guid.specs.declared.Halves.{Halves}
-use Rattle.guid.specs.Guid.{firstHalf, secondHalf, halvesOf}
+use Rattle.guid.specs.Guid.{halvesOf}
 use Rattle.face.specs.Outcome.{outcomeOf}
 use borrow.Author.Needs.{needs}
 use Rattle.face.proofs.ids.cablefinch_guid_halves.Statement.{statement}

@@ -1,7 +1,7 @@
 -- `cablefinch_guid_parts` meets its contract. Assumes nothing.
 use Rattle.face.proofs.OutcomeLaws.{told}
 use mathlib.Core.Path.{ap}
-use Rattle.words.specs.Answer.{Answer, accepted}
+use Rattle.words.specs.Answer.{accepted}
 use Rattle.guid.specs.declared.Guid.{Guid}
 use Rattle.guid.specs.Guid.{wordsOf}
 use borrow.Author.Needs.{needs}

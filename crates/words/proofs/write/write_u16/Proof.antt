@@ -1,7 +1,5 @@
 -- `write::write_u16` meets its contract: the bytes of the word, stored one after the other.
 -- Assumes nothing.
-use native.Mathlib.Omega.{arith}
-use lib.ListN.{length-set}
 use Rattle.words.specs.Word.{bytesOf}
 use Rattle.words.proofs.BufferLaws.{word-unwritten, word-written}
 use borrow.Author.Needs.{needs}
