@@ -7,12 +7,53 @@ use Prim.Native.Nat.{ℕ, zero, suc, _+_, _<_, _≤_, _-_}
 use native.Mathlib.Nat.{add-zero, sub-self, eq-or-lt-of-le, lt-of-not-le}
 use native.Mathlib.Decide.{decLe}
 use native.Mathlib.Omega.{arith}
-use Rattle.words.specs.Decide.{pick, Line, _⇒_, decide, firstFrom, first}
+use Rattle.words.specs.Decide.{pick, Line, _⇒_, Silent, Decides, decide, firstFrom, first}
+use Rattle.words.specs.Note.{Told, answerOf, noteOf, answers, notes}
 
 -- a list of checks, then more of them
 pub decide-append : {A : Type 0} (xs ys : List (Line A)) (a : A) → decide (xs ++ ys) a ≡ decide xs (decide ys a)
 decide-append [] ys a = refl
 decide-append ((test ⇒ answer) ∷ xs) ys a = ap (pick test answer) (decide-append xs ys a)
+
+-- silent lines leave the answer to what is behind them
+pub silent-decides : {A : Type 0} (lines : List (Line A)) (a : A) → Silent lines → decide lines a ≡ a
+silent-decides [] a silent = refl
+silent-decides ((test ⇒ answer) ∷ lines) a silent = rw (silent .0) (silent-decides lines a (silent .1))
+
+-- The answer is that of the first line whose test holds, the lines before it silent; or all are, and it is the one given last.
+pub deciding : {A : Type 0} (lines : List (Line A)) (a : A)
+    → Decides lines (decide lines a) ⊎ (Silent lines × (decide lines a ≡ a))
+deciding [] a = inr (tt, refl)
+deciding ((true ⇒ answer) ∷ lines) a =
+    inl (record { before = []; after = lines; test = true; joins = refl; silent = tt; holds = refl })
+deciding ((false ⇒ answer) ∷ lines) a = ⊎-elim further (λ quiet. inr ((refl, quiet .0), quiet .1)) (deciding lines a)
+  where
+    further : Decides lines (decide lines a) → Decides ((false ⇒ answer) ∷ lines) (decide lines a) ⊎ (((false ≡ false) × Silent lines) × (decide lines a ≡ a))
+    further d =
+        inl (record {
+          before = (false ⇒ answer) ∷ d .before;
+          after = d .after;
+          test = d .test;
+          joins = ap (_∷_ (false ⇒ answer)) (d .joins);
+          silent = (refl, d .silent);
+          holds = d .holds;
+        })
+
+-- The answers and the notes of one order are those of one line.
+
+pub answers-append : (xs ys : List (Line Told)) → answers (xs ++ ys) ≡ answers xs ++ answers ys
+answers-append [] ys = refl
+answers-append ((test ⇒ told) ∷ xs) ys = ap (_∷_ (test ⇒ answerOf told)) (answers-append xs ys)
+
+pub answers-decide : (lines : List (Line Told)) (told : Told) → decide (answers lines) (answerOf told) ≡ answerOf (decide lines told)
+answers-decide [] told = refl
+answers-decide ((true ⇒ first) ∷ lines) told = refl
+answers-decide ((false ⇒ first) ∷ lines) told = answers-decide lines told
+
+pub notes-decide : (lines : List (Line Told)) (told : Told) → decide (notes lines) (noteOf told) ≡ noteOf (decide lines told)
+notes-decide [] told = refl
+notes-decide ((true ⇒ first) ∷ lines) told = refl
+notes-decide ((false ⇒ first) ∷ lines) told = notes-decide lines told
 
 -- the test fails at i: the search goes on behind i
 pub first-miss : (test : ℕ → Bool) (i n : ℕ) → i < n → test i ≡ false → firstFrom test i (n - i) ≡ firstFrom test (i + 1) (n - (i + 1))

@@ -3,7 +3,8 @@
 -- computes no further than its answer.) Assumes nothing.
 use Prim.Native.Nat.{ℕ, zero, suc, _+_}
 use mathlib.Core.Bool.{Bool, true, false, not}
-use mathlib.Core.List.{List, [], _∷_}
+use mathlib.Core.List.{List, [], _∷_, _++_}
+use mathlib.Core.Path.{_≡_}
 use lib.Dec.{ltb, eqb}
 
 infix 90 _<?_
@@ -27,6 +28,20 @@ _≠?_ a b = not (eqb a b)
 -- one check: where the test holds, this is the answer
 pub data Line (A : Type 0) : Type 0 where
   _⇒_ : Bool → A → Line A
+
+-- no line's test holds
+abbrev pub Silent : {A : Type 0} → List (Line A) → Type 0
+Silent [] = Unit {0}
+Silent ((test ⇒ answer) ∷ lines) = (test ≡ false) × Silent lines
+
+-- a line with this answer decides: its test holds, and the lines before it are silent
+pub record Decides {A : Type 0} (lines : List (Line A)) (answer : A) : Type 0 where
+  pub before : List (Line A)
+  pub after : List (Line A)
+  pub test : Bool
+  pub joins : lines ≡ before ++ (test ⇒ answer) ∷ after
+  pub silent : Silent before
+  pub holds : test ≡ true
 
 abbrev pub decide : {A : Type 0} → List (Line A) → A → A
 decide [] a = a

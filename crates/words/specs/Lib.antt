@@ -5,3 +5,6 @@ pub mod Decide
 pub mod Answer
 pub mod Statement
 pub mod Filling
+pub mod Text
+pub mod Note
+pub mod Paper

@@ -1,0 +1,25 @@
+-- What ran short by its number, and back. Assumes nothing.
+use Prim.Native.Nat.{ℕ}
+use mathlib.Core.List.{List, [], _∷_}
+use mathlib.Core.Path.{_≡_, refl}
+use lib.ListN.{getD}
+use Rattle.words.specs.Decide.{_=?_, _⇒_, decide}
+use Rattle.words.specs.Paper.{roomNumber, noRoomValues}
+use Rattle.words.specs.declared.outcome.NoRoom.{NoRoom}
+use Rattle.words.specs.declared.outcome.Room.{Room}
+use Rattle.words.specs.declared.outcome.Room.the-variants.{Parts, Rows, Values, Output}
+
+abbrev pub roomOf : ℕ → Room
+roomOf n = decide (n =? 1 ⇒ Parts ∷ n =? 2 ⇒ Rows ∷ n =? 3 ⇒ Values ∷ []) Output
+
+pub room-back : (room : Room) → roomOf (roomNumber room) ≡ room
+room-back Parts = refl
+room-back Rows = refl
+room-back Values = refl
+room-back Output = refl
+
+abbrev pub noRoomOf : List ℕ → NoRoom
+noRoomOf values = record { room = roomOf (getD values 0 0); needed = getD values 1 0; given = getD values 2 0 }
+
+pub no-room-back : (short : NoRoom) → noRoomOf (noRoomValues short) ≡ short
+no-room-back short = λ i. record { room = room-back (short .room) i; needed = short .needed; given = short .given }
