@@ -14,7 +14,7 @@ use Rattle.words.proofs.WordLaws.{bytesOf-join, bytesOf-word}
 use Rattle.guid.specs.declared.Guid.{Guid}
 use Rattle.guid.specs.Guid.{guidOf, Fitting, wireBytes, guidAt, firstHalf, secondHalf, guidOfHalves, isNull}
 use Rattle.guid.proofs.WireLaws.{guid-back, words-of-halves, half-of-words, wire-in-halves}
-use Rattle.guid.proofs.Cases.{same-or-other, true-not-false}
+use Rattle.numerals.proofs.Cases.{same-or-other, true-not-false}
 
 guid-same : (g : Guid) {a b c d : ℕ} → g .w0 ≡ a → g .w1 ≡ b → g .w2 ≡ c → g .w3 ≡ d → g ≡ guidOf a b c d
 guid-same g {a} {b} {c} p q r t =

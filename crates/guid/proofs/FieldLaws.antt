@@ -9,32 +9,15 @@ use native.Mathlib.Omega.{arith}
 use borrow.Author.Tests.{lt-ltb, le-ltb, ne-eqb}
 use lib.ListN.{length, getD, List·getD-eq-default}
 use Rattle.words.proofs.DecideLaws.{pick-case}
-use Rattle.guid.proofs.Cases.{lt-or-le, true-not-false}
+use Rattle.numerals.proofs.Cases.{lt-or-le, true-not-false}
 use Rattle.words.specs.Answer.{accepted, refuse}
-use Rattle.guid.specs.Text.{digitOf, Field, word, stopped, ends, digits, some, field, behind, walk}
+use Rattle.words.specs.Text.{digitOf}
+use Rattle.guid.specs.Text.{Field, word, stopped, ends, digits, some, field, behind, walk}
 
 -- a digit is no dash
 pub digit-other : (b : ℕ) → digitOf b ≤ 15 → (b ≡ 45 → ⊥)
 unfolding digitOf
 digit-other b h e = let sixteen : digitOf b ≡ 16 = rw e in omega arith
-
--- a byte in none of the three runs of digits
-pub past : {b : ℕ} (k : ℕ) → k ≤ b → (b ≡ k → ⊥) → suc k ≤ b
-past k h other = ⊎-elim (λ (same : k ≡ _). absurd (other (sym same))) (λ (more : k < _). more) (eq-or-lt-of-le h)
-
-pub other-byte : (b : ℕ) → (48 ≤ b → 58 ≤ b) → (65 ≤ b → 71 ≤ b) → (97 ≤ b → 103 ≤ b) → 16 ≡ digitOf b
-unfolding digitOf
-other-byte b no-number no-capital no-letter =
-    ⊎-elim
-    (λ (low : b < 48). rw (lt-ltb b 48 low))
-    (λ (h : 48 ≤ b). ⊎-elim
-    (λ (low : b < 65). rw (le-ltb b 48 h, le-ltb b 58 (no-number h), lt-ltb b 65 low))
-    (λ (g : 65 ≤ b). ⊎-elim
-    (λ (low : b < 97). rw (le-ltb b 48 h, le-ltb b 58 (no-number h), le-ltb b 65 g, le-ltb b 71 (no-capital g), lt-ltb b 97 low))
-    (λ (f : 97 ≤ b). rw (le-ltb b 48 h, le-ltb b 58 (no-number h), le-ltb b 65 g, le-ltb b 71 (no-capital g), le-ltb b 97 f, le-ltb b 103 (no-letter f)))
-    (lt-or-le b 97))
-    (lt-or-le b 65))
-    (lt-or-le b 48)
 
 module _ (s : List ℕ) (i : ℕ) where
   -- the end, a dash, any other byte

@@ -14,16 +14,19 @@ use Rattle.words.specs.Answer.{accepted, refuse}
 use Rattle.guid.specs.declared.Guid.{Guid}
 use Rattle.guid.specs.declared.Parsed.the-variants.{Read}
 use Rattle.guid.specs.Guid.{wordsOf}
-use Rattle.guid.specs.Text.{hex, textOf, digitOf, Field, word, stopped, ends, digits, some, field, walk, reading}
-use Rattle.guid.specs.Statement.{parsedPaper}
+use Rattle.words.specs.Text.{digitOf}
+use Rattle.numerals.specs.Statement.{hex}
+use Rattle.guid.specs.Text.{textOf, Field, word, stopped, ends, digits, some, field, walk, reading}
+use Rattle.guid.specs.Paper.{parsedPaper}
 use Rattle.guid.specs.Normal.{shorn, plainField, fields, between, normal}
-use Rattle.guid.proofs.Cases.{lt-or-le, same-or-other, true-or-false}
+use Rattle.numerals.proofs.Cases.{lt-or-le, same-or-other, true-or-false}
 use Rattle.guid.proofs.FieldLaws.{ends-past, ends-dash, digits-end, digits-wrong, digits-full, digits-more, field-past, field-plus, field-plain, walk-stopped, walk-short, walk-on, walk-long, walk-end}
-use Rattle.guid.proofs.DigitLaws.{text-nested}
-use Rattle.guid.proofs.ValueLaws.{Digits, value, digit-byte, no-dash, no-plus, shorn-value}
+use Rattle.guid.proofs.TextLaws.{text-nested}
+use Rattle.guid.specs.Digits.{Digits, value}
+use Rattle.guid.proofs.ValueLaws.{digit-byte, no-dash, no-plus, shorn-value}
 
 -- a field cannot both be read and not
-word-not-stopped : (n end place : ℕ) → word n end ≡ stopped place → ⊥
+pub word-not-stopped : (n end place : ℕ) → word n end ≡ stopped place → ⊥
 word-not-stopped n end place e = let z : _≡_ {A = ℕ} 0 1 = cc in omega arith
 
 -- where a field ends: nothing, or a dash and what stands behind it
@@ -34,11 +37,11 @@ pub data Ended (s : List ℕ) (end : ℕ) : Type 0 where
 ended-past : (s : List ℕ) (i : ℕ) → length s ≤ i → Ended s i
 ended-past s i h = at-the-end h (drop-of-length-le s {i = i} h)
 
-dash-behind : (s : List ℕ) (end : ℕ) → end < length s → Ended s end → drop end s ≡ 45 ∷ drop (end + 1) s
+pub dash-behind : (s : List ℕ) (end : ℕ) → end < length s → Ended s end → drop end s ≡ 45 ∷ drop (end + 1) s
 dash-behind s end inside (at-the-end past e) = absurd (omega arith)
 dash-behind s end inside (at-a-dash h e) = e
 
-step : (s : List ℕ) (i b : ℕ) → i < length s → getD s i 0 ≡ b → drop i s ≡ b ∷ drop (i + 1) s
+pub step : (s : List ℕ) (i b : ℕ) → i < length s → getD s i 0 ≡ b → drop i s ≡ b ∷ drop (i + 1) s
 step s i b h e = drop-cons s i 0 h ∙ ap (λ (k : ℕ). getD s i 0 ∷ drop k s) (sym (add-one i)) ∙ ap (λ (x : ℕ). x ∷ drop (i + 1) s) e
 
 -- the digits that were read
@@ -94,7 +97,7 @@ digits-told s (suc room) i n w end e =
     ap (λ (k : ℕ). digits k s (i + 1) (n * 16 + v)) fewer ∙ sym (digits-more s i (suc room) n v (omega arith) h refl fine) ∙ e in
     one-read s room i n w end h fine (digits-told s room (i + 1) (n * 16 + v) w end rest))
 
-some-told : (s : List ℕ) (room i w end : ℕ) → some room s i ≡ word w end → Run s room i 0 w end
+pub some-told : (s : List ℕ) (room i w end : ℕ) → some room s i ≡ word w end → Run s room i 0 w end
 unfolding some
 some-told s room i w end e =
     ⊎-elim
@@ -172,10 +175,10 @@ pub record Walked (s : List ℕ) (i : ℕ) (words r : List ℕ) : Type 0 where
   pub order : r ≡ reverseAux read words
   pub plain : map plainField (fields (drop i s)) ≡ map hex read
 
-not-accepted : (r : List ℕ) → accepted 0 r ≡ refuse 16 [] → ⊥
+pub not-accepted : (r : List ℕ) → accepted 0 r ≡ refuse 16 [] → ⊥
 not-accepted r e = let z : _≡_ {A = ℕ} 0 1 = cc in omega arith
 
-read-or-stopped : (f : Field) → ((n : ℕ) × (end : ℕ) × (f ≡ word n end)) ⊎ ((place : ℕ) × (f ≡ stopped place))
+pub read-or-stopped : (f : Field) → ((n : ℕ) × (end : ℕ) × (f ≡ word n end)) ⊎ ((place : ℕ) × (f ≡ stopped place))
 read-or-stopped (word n end) = inl (n, end, refl)
 read-or-stopped (stopped place) = inr (place, refl)
 

@@ -12,13 +12,17 @@ use Rattle.words.specs.Word.{Bytes}
 use Rattle.guid.specs.declared.Guid.{Guid}
 use Rattle.guid.specs.declared.Parsed.the-variants.{Read}
 use Rattle.guid.specs.Guid.{Fitting, guidAt}
-use Rattle.guid.specs.Text.{hex, textOf, digitOf, word, ends, digits, some, field, walk, reading}
-use Rattle.guid.specs.Statement.{parsedPaper}
+use Rattle.words.specs.Text.{digitOf}
+use Rattle.numerals.specs.Statement.{hex}
+use Rattle.guid.specs.Text.{textOf, word, ends, digits, some, field, walk, reading}
+use Rattle.guid.specs.Paper.{parsedPaper}
 use Rattle.guid.proofs.Unique.{parsed-told}
 use Rattle.guid.proofs.WireLaws.{read-fits}
 use Rattle.guid.proofs.FieldLaws.{ends-past, ends-dash, digits-end, digits-more, some-more, field-plain, walk-on, walk-end}
-use Rattle.guid.proofs.DigitLaws.{length-spelled-most, length-spelled-least, text-nested}
-use Rattle.guid.proofs.ValueLaws.{Digits, value, digit-byte, no-plus, digits-spelled, value-spelled}
+use Rattle.numerals.proofs.SpelledLaws.{length-spelled-most, length-spelled-least}
+use Rattle.guid.proofs.TextLaws.{text-nested}
+use Rattle.guid.specs.Digits.{Digits, value}
+use Rattle.guid.proofs.ValueLaws.{digit-byte, no-plus, digits-spelled, value-spelled}
 
 -- what stands at i
 module _ (s : List ℕ) (i : ℕ) where
@@ -78,7 +82,7 @@ field-read s i (b ∷ ds) r e good any short end =
 module _ (s : List ℕ) (i w : ℕ) (fits : w < 2 ^ 32) where
   word-read : (r : List ℕ) → drop i s ≡ hex w ++ r → ends s (i + length (hex w)) ≡ true → field s i ≡ word w (i + length (hex w))
   word-read r e end =
-      field-read s i (hex w) r e (digits-spelled 8 w) (length-spelled-least 7 w) (length-spelled-most 8 w) end
+      field-read s i (hex w) r e (digits-spelled 8 w) (length-spelled-least 16 7 w) (length-spelled-most 16 8 w) end
       ∙ ap (λ (n : ℕ). word n (i + length (hex w))) (value-spelled 8 w fits)
 
   -- with a dash behind it the walk goes on

@@ -7,29 +7,29 @@ use lib.ListN.{length, getD}
 use Rattle.words.specs.Buffer.{fitted}
 use Rattle.words.specs.Answer.{Answer, accepted, more, refused}
 use Rattle.words.specs.Statement.{Leaves, OneResult}
-use Rattle.words.proofs.Unique.{equal-to-one}
+use Rattle.words.specs.Paper.{Tells, outcome}
+use Rattle.words.proofs.Unique.{equal-to-one, means-one}
+use Rattle.words.proofs.PaperLaws.{noRoomOf, no-room-back}
 use Rattle.guid.specs.declared.Guid.{Guid}
 use Rattle.guid.specs.declared.Printed.{Printed}
-use Rattle.guid.specs.declared.Printed.the-variants.{Written, NoRoom}
+use Rattle.guid.specs.declared.Printed.the-variants.{Written, Refused}
 use Rattle.guid.specs.declared.Parsed.{Parsed}
 use Rattle.guid.specs.declared.Parsed.the-variants.{Read, Bad}
 use Rattle.guid.specs.Guid.{guidOf, wordsOf, wireBytes, guidAt, halvesOf, guidOfHalves, isNull}
-use Rattle.guid.specs.Text.{textOf}
-use Rattle.guid.specs.Statement.{printedPaper, parsedPaper, MadeOfParts, GivesParts, MadeOfHalves, GivesHalves, TellsNull, ReadsBytes, SizesText, Prints, Parses}
+use Rattle.guid.specs.Text.{textOf, printing, reading}
+use Rattle.guid.specs.Paper.{printedPaper, parsedPaper}
+use Rattle.guid.specs.Statement.{MadeOfParts, GivesParts, MadeOfHalves, GivesHalves, TellsNull, ReadsBytes, SizesText, Prints, Parses}
 
 -- back from an answer to the enum's case
 printedBack : Answer → Printed
 printedBack (accepted count fields) = Written count
 printedBack more = Written 0
-printedBack (refused number values consumed) = NoRoom (getD values 1 0) (getD values 2 0)
+printedBack (refused number values consumed) = Refused (noRoomOf values)
 
 printed-back : (r : Printed) → printedBack (printedPaper r) ≡ r
 unfolding printedBack
 printed-back (Written count) = refl
-printed-back (NoRoom needed given) = refl
-
-pub printed-told : (r r′ : Printed) → printedPaper r ≡ printedPaper r′ → r ≡ r′
-printed-told r r′ e = sym (printed-back r) ∙ ap printedBack e ∙ printed-back r′
+printed-back (Refused short) = ap Refused (no-room-back short)
 
 parsedBack : Answer → Parsed
 parsedBack (accepted count fields) = Read (guidOf (getD fields 0 0) (getD fields 1 0) (getD fields 2 0) (getD fields 3 0))
@@ -42,7 +42,7 @@ parsed-back (Read g) = refl
 parsed-back Bad = refl
 
 pub parsed-told : (r r′ : Parsed) → parsedPaper r ≡ parsedPaper r′ → r ≡ r′
-parsed-told r r′ e = sym (parsed-back r) ∙ ap parsedBack e ∙ parsed-back r′
+parsed-told r r′ e = means-one parsedPaper parsedBack parsed-back (parsedPaper r′) r r′ e refl
 
 pub Guid-from-parts-unique : (a b c d : ℕ) → OneResult (MadeOfParts a b c d)
 Guid-from-parts-unique a b c d = equal-to-one (guidOf a b c d)
@@ -70,9 +70,17 @@ Guid-text-size-unique g = equal-to-one (length (textOf g))
 
 pub Guid-print-unique : (g : Guid) (before : List ℕ) → OneResult (λ (p : Printed × List ℕ). Prints g before (p .0) (p .1))
 Guid-print-unique g before p p′ q q′ =
-    let answer : p .0 ≡ p′ .0 = printed-told (p .0) (p′ .0) (q .0 ∙ sym (q′ .0)) in
-    let exit : p .1 ≡ p′ .1 = q .1 ∙ sym (q′ .1) in
-    ap (λ (r : Printed). (r, p .1)) answer ∙ ap (λ (l : List ℕ). (p′ .0, l)) exit
+    let answer = means-one printedPaper printedBack printed-back (printing g (length before)) (p .0) (p′ .0) (q .0) (q′ .0) in
+    λ i. (answer i, (q .1 ∙ sym (q′ .1)) i)
 
 pub Guid-parse-unique : (s : List ℕ) → OneResult (Parses s)
-Guid-parse-unique s r r′ q q′ = parsed-told r r′ (q ∙ sym q′)
+Guid-parse-unique s = means-one parsedPaper parsedBack parsed-back (reading s)
+
+pub printed-outcome-unique : (answer : Printed) → OneResult (Tells (printedPaper answer))
+printed-outcome-unique answer = equal-to-one (outcome (printedPaper answer))
+
+pub words-outcome-unique : (g : Guid) → OneResult (Tells (accepted 0 (wordsOf g)))
+words-outcome-unique g = equal-to-one (outcome (accepted 0 (wordsOf g)))
+
+pub parsed-outcome-unique : (answer : Parsed) → OneResult (Tells (parsedPaper answer))
+parsed-outcome-unique answer = equal-to-one (outcome (parsedPaper answer))

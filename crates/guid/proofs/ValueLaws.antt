@@ -9,10 +9,12 @@ use borrow.Author.Tests.{lt-ltb, le-ltb, ne-eqb}
 use lib.Dec.{ltb}
 use lib.ListN.{length}
 use Rattle.words.specs.Decide.{pick}
-use Rattle.guid.specs.Text.{digit, spelled, hex, digitOf}
+use Rattle.words.specs.Text.{digit, spelled, digitOf}
+use Rattle.numerals.specs.Statement.{hex}
+use Rattle.guid.specs.Digits.{Digits, value}
 use Rattle.guid.specs.Normal.{lower, shorn}
-use Rattle.guid.proofs.Cases.{lt-or-le, same-or-other}
-use Rattle.guid.proofs.DigitLaws.{spelled-none, spelled-one, spelled-more}
+use Rattle.numerals.proofs.Cases.{lt-or-le, same-or-other}
+use Rattle.numerals.proofs.SpelledLaws.{spelled-none, spelled-one, spelled-more}
 
 -- the three runs of digits
 pub data DigitByte (b : ℕ) : Type 0 where
@@ -102,19 +104,9 @@ worth b (number l h e) other = ⊎-elim (λ (same : 48 ≡ b). absurd (other (sy
 worth b (capital l h e) other = omega arith
 worth b (letter l h e) other = omega arith
 
--- every element is a digit
-abbrev pub Digits : List ℕ → Type 0
-Digits [] = Unit {0}
-Digits (b ∷ ds) = (digitOf b ≤ 15) × Digits ds
-
 pub digits-append : (ds es : List ℕ) → Digits ds → Digits es → Digits (ds ++ es)
 digits-append [] es p q = q
 digits-append (b ∷ ds) es p q = (p .0, digits-append ds es (p .1) q)
-
--- the number that digits spell behind n
-unfoldable pub value : ℕ → List ℕ → ℕ
-value n [] = n
-value n (b ∷ ds) = value (n * 16 + digitOf b) ds
 
 value-append : (n : ℕ) (ds : List ℕ) (b : ℕ) → value n (ds ++ b ∷ []) ≡ value n ds * 16 + digitOf b
 unfolding value
@@ -122,42 +114,42 @@ value-append n [] b = refl
 value-append n (d ∷ ds) b = value-append (n * 16 + digitOf d) ds b
 
 -- a spelling is made of digits and spells its number
-pub digits-spelled : (k n : ℕ) → Digits (spelled k n)
-digits-spelled zero n = rw (spelled-none n) tt
+pub digits-spelled : (k n : ℕ) → Digits (spelled 16 k n)
+digits-spelled zero n = rw (spelled-none 16 n) tt
 digits-spelled (suc k) n =
     ⊎-elim
-    (λ (small : n < 16). rw (spelled-one k n small) (omega (arith, value-digit n small), tt))
-    (λ (big : 16 ≤ n). rw (spelled-more k n big) (digits-append (spelled k (n / 16)) (digit (n % 16) ∷ []) (digits-spelled k (n / 16)) (omega (arith, value-digit (n % 16) (omega arith)), tt)))
+    (λ (small : n < 16). rw (spelled-one 16 k n small) (omega (arith, value-digit n small), tt))
+    (λ (big : 16 ≤ n). rw (spelled-more 16 k n big) (digits-append (spelled 16 k (n / 16)) (digit (n % 16) ∷ []) (digits-spelled k (n / 16)) (omega (arith, value-digit (n % 16) (omega arith)), tt)))
     (lt-or-le n 16)
 
-pub value-spelled : (k n : ℕ) → n < 16 ^ k → value 0 (spelled k n) ≡ n
+pub value-spelled : (k n : ℕ) → n < 16 ^ k → value 0 (spelled 16 k n) ≡ n
 unfolding value
-value-spelled zero n h = rw (spelled-none n) (omega arith)
+value-spelled zero n h = rw (spelled-none 16 n) (omega arith)
 value-spelled (suc k) n h =
     ⊎-elim
-    (λ (small : n < 16). rw (spelled-one k n small) (omega (arith, value-digit n small)))
+    (λ (small : n < 16). rw (spelled-one 16 k n small) (omega (arith, value-digit n small)))
     (λ (big : 16 ≤ n).
-    let rest : value 0 (spelled k (n / 16)) ≡ n / 16 = value-spelled k (n / 16) (omega (arith, pow-succ' 16 k)) in
-    rw (spelled-more k n big) (value-append 0 (spelled k (n / 16)) (digit (n % 16)) ∙ omega (arith, value-digit (n % 16) (omega arith))))
+    let rest : value 0 (spelled 16 k (n / 16)) ≡ n / 16 = value-spelled k (n / 16) (omega (arith, pow-succ' 16 k)) in
+    rw (spelled-more 16 k n big) (value-append 0 (spelled 16 k (n / 16)) (digit (n % 16)) ∙ omega (arith, value-digit (n % 16) (omega arith))))
     (lt-or-le n 16)
 
 -- digits behind a number that is not 0 are spelled as they stand, in lower case
-spelled-value : (j n : ℕ) (ds : List ℕ) → 0 < n → Digits ds → spelled (j + length ds) (value n ds) ≡ spelled j n ++ map lower ds
+spelled-value : (j n : ℕ) (ds : List ℕ) → 0 < n → Digits ds → spelled 16 (j + length ds) (value n ds) ≡ spelled 16 j n ++ map lower ds
 unfolding value
-spelled-value j n [] some good = rw (add-zero j) (sym (append-nil (spelled j n)))
+spelled-value j n [] some good = rw (add-zero j) (sym (append-nil (spelled 16 j n)))
 spelled-value j n (b ∷ ds) some good =
     let m : ℕ = n * 16 + digitOf b in
     let fine : digitOf b ≤ 15 = good .0 in
     let high : m / 16 ≡ n = omega arith in
     let low : m % 16 ≡ digitOf b = omega arith in
     let count : j + suc (length ds) ≡ suc j + length ds = omega arith in
-    let first : spelled (suc j) m ≡ spelled j n ++ lower b ∷ [] =
-    spelled-more j m (omega arith) ∙ rw (high, low, digit-value b (digit-byte b fine)) in
-    rw (count, spelled-value (suc j) m ds (omega arith) (good .1), first, append-assoc (spelled j n) (lower b ∷ []) (map lower ds))
+    let first : spelled 16 (suc j) m ≡ spelled 16 j n ++ lower b ∷ [] =
+    spelled-more 16 j m (omega arith) ∙ rw (high, low, digit-value b (digit-byte b fine)) in
+    rw (count, spelled-value (suc j) m ds (omega arith) (good .1), first, append-assoc (spelled 16 j n) (lower b ∷ []) (map lower ds))
 
 nothing-is-zero : 48 ∷ [] ≡ hex 0
 unfolding digit
-nothing-is-zero = sym (spelled-one 7 0 (omega arith))
+nothing-is-zero = sym (spelled-one 16 7 0 (omega arith))
 
 nought-value : digitOf 48 ≡ 0
 unfolding digitOf
@@ -179,6 +171,6 @@ shorn-value (b ∷ ds) good short =
     let some : 0 < 0 * 16 + digitOf b = omega (arith, worth b byte other) in
     let plain : digit (0 * 16 + digitOf b) ≡ lower b = ap digit (omega arith) ∙ digit-value b byte in
     rw (ne-eqb b 48 other)
-    (sym (ap (λ (k : ℕ). spelled k (value (0 * 16 + digitOf b) ds)) count ∙ spelled-value (suc (7 - length ds)) (0 * 16 + digitOf b) ds some (good .1)
-    ∙ rw (spelled-one (7 - length ds) (0 * 16 + digitOf b) few, plain))))
+    (sym (ap (λ (k : ℕ). spelled 16 k (value (0 * 16 + digitOf b) ds)) count ∙ spelled-value (suc (7 - length ds)) (0 * 16 + digitOf b) ds some (good .1)
+    ∙ rw (spelled-one 16 (7 - length ds) (0 * 16 + digitOf b) few, plain))))
     (same-or-other b 48)

@@ -7,7 +7,7 @@ use native.Mathlib.Omega.{arith}
 use lib.Dec.{eqb}
 use lib.ListN.{length, length-append}
 use borrow.Author.Tests.{eq-eqb}
-use Rattle.guid.proofs.Cases.{asked-twice}
+use Rattle.numerals.proofs.Cases.{asked-twice}
 use Rattle.words.specs.Word.{word, bytesOf, Bytes}
 use Rattle.words.proofs.WordLaws.{word-lt, word-split, word-bytesOf, word-behind, length-bytesOf, bytesOf-split}
 use Rattle.guid.specs.declared.Guid.{Guid}

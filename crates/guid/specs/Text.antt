@@ -3,29 +3,18 @@ use Prim.Native.Nat.{ℕ, zero, suc, _+_, _-_, _*_, _/_, _%_}
 use mathlib.Core.Bool.{Bool, true}
 use mathlib.Core.List.{List, [], _∷_, _++_}
 use lib.ListN.{length, getD}
+use Rattle.words.specs.Text.{digitOf}
+use Rattle.numerals.specs.Statement.{hex}
 use Rattle.words.specs.Decide.{pick, decide, _⇒_, _<?_, _=?_}
 use Rattle.words.specs.Answer.{Answer, accepted, refuse}
+use Rattle.words.specs.Paper.{roomLine}
+use Rattle.words.specs.declared.outcome.Room.the-variants.{Output}
 use Rattle.guid.specs.declared.Guid.{Guid}
 
 -- Text out.
 
 abbrev pub dash : List ℕ
 dash = 45 ∷ []
-
--- the digit of a value below 16: 0 to 9, a to f
-unfoldable pub digit : ℕ → ℕ
-digit value = pick (value <? 10) (48 + value) (87 + value)
-
--- a number below 16 ^ most in hex, highest digit first, without leading zeros; 0 is "0"
-unfoldable pub spelled : ℕ → ℕ → List ℕ
-spelled zero n = []
-spelled (suc most) n =
-    let more = spelled most (n / 16) ++ digit (n % 16) ∷ [] in
-    pick (n <? 16) (digit n ∷ []) more
-
--- a word of 32 bits
-abbrev pub hex : ℕ → List ℕ
-hex w = spelled 8 w
 
 -- w3-w2-w1-w0
 unfoldable pub textOf : Guid → List ℕ
@@ -34,22 +23,9 @@ textOf g = hex (g .w3) ++ dash ++ hex (g .w2) ++ dash ++ hex (g .w1) ++ dash ++ 
 -- the text into so much room: how many bytes, or 17 for the output
 abbrev pub printing : Guid → ℕ → Answer
 printing g room =
-    decide (room <? length (textOf g) ⇒ refuse 17 (4 ∷ length (textOf g) ∷ room ∷ []) ∷ []) (accepted (length (textOf g)) [])
+    decide (roomLine Output (length (textOf g)) room ∷ []) (accepted (length (textOf g)) [])
 
 -- Text in: a walk over the fields that knows where it stands.
-
--- the value of a hex digit in either case; 16 for any other byte
-unfoldable pub digitOf : ℕ → ℕ
-digitOf b =
-    decide
-    (b <? 48 ⇒ 16
-    ∷ b <? 58 ⇒ (b - 48)
-    ∷ b <? 65 ⇒ 16
-    ∷ b <? 71 ⇒ (b - 55)
-    ∷ b <? 97 ⇒ 16
-    ∷ b <? 103 ⇒ (b - 87)
-    ∷ [])
-    16
 
 -- how reading a field goes
 pub data Field : Type 0 where

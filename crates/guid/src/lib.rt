@@ -1,9 +1,20 @@
 // YTsaurus GUIDs after guid.rs: sixteen wire bytes, four little-endian words, two halves, and one text, the words printed backwards.
 // A GUID is held as its four words, so that the enum of an answer can carry it; the wire bytes are read and written at the border.
 ghost use Rattle.words.specs.Statement.{Leaves};
-ghost use Rattle.guid.specs.Guid.{wireBytes};
+ghost use Rattle.words.specs.Answer.{accepted};
+ghost use Rattle.words.specs.Paper.{Tells};
+ghost use Rattle.guid.specs.Guid.{wireBytes, wordsOf};
+ghost use Rattle.guid.specs.Paper.{printedPaper, parsedPaper};
 ghost use Rattle.guid.specs.Statement.{MadeOfParts, GivesParts, MadeOfHalves, GivesHalves, TellsNull, ReadsBytes, SizesText, Prints, Parses};
 use hex::Field;
+use numerals::hex_size;
+use words::outcome::ACCEPTED;
+use words::outcome::NoRoom;
+use words::outcome::Outcome;
+use words::outcome::Room;
+use words::outcome::no_room;
+use words::outcome::refusal;
+use words::outcome::taken;
 use words::read::read_u32;
 use words::write::write_u32;
 
@@ -23,10 +34,10 @@ pub type FourWords = [u32; 4];
 // Bytes 0 to 7 and bytes 8 to 15, as `TGuid` carries them.
 pub struct Halves(pub u64, pub u64);
 
-// What `print` answers: how many bytes it wrote, or document 01's 17 (4, needed, given).
+// What `print` answers: how many bytes it wrote, or 17.
 pub enum Printed {
     Written(usize),
-    NoRoom { needed: usize, given: usize },
+    Refused(NoRoom),
 }
 
 // What `parse` answers: the GUID, or document 01's 16.
@@ -36,18 +47,21 @@ pub enum Parsed {
 }
 
 impl Guid {
+    // The GUID of four words in wire order.
     pub fn from_parts(w0: u32, w1: u32, w2: u32, w3: u32) -> Guid
         ensures { λ r. ⌜ MadeOfParts w0 w1 w2 w3 r ⌝ }
     {
         Self { w0, w1, w2, w3 }
     }
 
+    // The four words in wire order.
     pub fn parts(self) -> FourWords
         ensures { λ r. ⌜ GivesParts self r ⌝ }
     {
         [self.w0, self.w1, self.w2, self.w3]
     }
 
+    // The GUID of two halves.
     pub fn from_halves(first: u64, second: u64) -> Guid
         ensures { λ r. ⌜ MadeOfHalves first second r ⌝ }
     {
@@ -59,6 +73,7 @@ impl Guid {
         }
     }
 
+    // The two halves.
     pub fn halves(self) -> Halves
         ensures { λ r. ⌜ GivesHalves self r ⌝ }
     {
@@ -68,6 +83,7 @@ impl Guid {
         )
     }
 
+    // Whether all sixteen bytes are 0.
     pub fn is_null(self) -> bool
         ensures { λ r. ⌜ TellsNull self r ⌝ }
     {
@@ -120,11 +136,7 @@ impl Guid {
     pub fn text_size(self) -> usize
         ensures { λ r. ⌜ SizesText self r ⌝ }
     {
-        hex::digits(self.w3)
-            + hex::digits(self.w2)
-            + hex::digits(self.w1)
-            + hex::digits(self.w0)
-            + 3
+        hex_size(self.w3) + hex_size(self.w2) + hex_size(self.w1) + hex_size(self.w0) + 3
     }
 
     // The text, over the front of `out`: Rust's `Display`.
@@ -133,10 +145,11 @@ impl Guid {
     {
         let needed = self.text_size();
         if out.len() < needed {
-            return Printed::NoRoom {
-                needed,
-                given: out.len(),
-            };
+            return Printed::Refused(NoRoom {
+                room: Room::Output,
+                needed: needed as u64,
+                given: out.len() as u64,
+            });
         }
         let second = hex::put_dashed(out, self.w3);
         let third = second + hex::put_dashed(&mut out[second..], self.w2);
@@ -174,5 +187,43 @@ impl Guid {
             return Parsed::Bad;
         }
         Parsed::Read(Guid { w0, w1, w2, w3 })
+    }
+}
+
+// What `print` answered, in words.
+pub fn printed_outcome(answer: Printed) -> Outcome
+    ensures { λ r. ⌜ Tells (printedPaper answer) r ⌝ }
+{
+    match answer {
+        Printed::Written(count) => taken(count as u64, 0, 0, 0),
+        Printed::Refused(short) => no_room(short),
+    }
+}
+
+// A GUID in words: its four words in wire order.
+pub fn words_outcome(id: Guid) -> Outcome
+    ensures { λ r. ⌜ Tells (accepted 0 (wordsOf id)) r ⌝ }
+{
+    Outcome {
+        kind: ACCEPTED,
+        number: 0,
+        count: 0,
+        v0: id.w0 as u64,
+        v1: id.w1 as u64,
+        v2: id.w2 as u64,
+        v3: id.w3 as u64,
+        v4: 0,
+        v5: 0,
+        v6: 0,
+    }
+}
+
+// What `parse` answered, in words.
+pub fn parsed_outcome(answer: Parsed) -> Outcome
+    ensures { λ r. ⌜ Tells (parsedPaper answer) r ⌝ }
+{
+    match answer {
+        Parsed::Bad => refusal(16, 0, 0, 0, 0),
+        Parsed::Read(id) => words_outcome(id),
     }
 }

@@ -4,7 +4,7 @@ pub mod BufferLaws
 pub mod DecideLaws
 pub mod Unique
 pub mod AnswerLaws
-pub mod RoomLaws
+pub mod PaperLaws
 pub mod TextLaws
 pub mod LentLaws
 pub mod FillingLaws

@@ -3,7 +3,8 @@ use Prim.Native.Nat.{ℕ}
 use mathlib.Core.List.{List, [], _∷_}
 use mathlib.Core.Path.{_≡_}
 use lib.ListN.{getD}
-use Rattle.words.specs.Answer.{Answer, accepted, more, refused}
+use Rattle.words.specs.Answer.{Answer, accepted, more, refused, refuse}
+use Rattle.words.specs.Decide.{Line, _⇒_, _<?_}
 use Rattle.words.specs.declared.outcome.Outcome.{Outcome}
 use Rattle.words.specs.declared.outcome.NoRoom.{NoRoom}
 use Rattle.words.specs.declared.outcome.Room.{Room}
@@ -18,6 +19,13 @@ roomNumber Output = 4
 
 abbrev pub noRoomValues : NoRoom → List ℕ
 noRoomValues short = roomNumber (short .room) ∷ short .needed ∷ short .given ∷ []
+
+abbrev pub noRoom : Room → ℕ → ℕ → Answer
+noRoom room needed given = refuse 17 (roomNumber room ∷ needed ∷ given ∷ [])
+
+-- the check for room: so much is needed, and so much was lent
+abbrev pub roomLine : Room → ℕ → ℕ → Line Answer
+roomLine room needed given = given <? needed ⇒ noRoom room needed given
 
 -- the values in their order, 0 where there are fewer than seven
 abbrev pub outcomeOf : ℕ → ℕ → ℕ → List ℕ → Outcome

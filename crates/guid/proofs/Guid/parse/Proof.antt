@@ -4,7 +4,7 @@ use mathlib.Core.Path.{_≡_, sym, _∙_, ap}
 use mathlib.Core.List.{[], _∷_}
 use Prim.Native.Nat.{_+_}
 use Rattle.guid.specs.Text.{walk, reading}
-use Rattle.guid.specs.Statement.{fieldOf}
+use Rattle.guid.specs.Stages.{fieldOf}
 use Rattle.guid.proofs.FieldLaws.{walk-stopped, walk-short, walk-on, walk-long, walk-end}
 use borrow.Author.Needs.{needs}
 use Rattle.guid.proofs.Guid.parse.Statement.{statement}

@@ -7,10 +7,10 @@ use native.Mathlib.Omega.{arith}
 use borrow.Author.Tests.{lt-ltb, le-ltb}
 use lib.ListN.{length, length-append}
 use Rattle.words.specs.Buffer.{over}
-use Rattle.words.proofs.BufferLaws.{fitted-fits, fitted-short}
-use Rattle.guid.specs.Text.{hex, dash, textOf}
+use Rattle.numerals.specs.Statement.{hex}
+use Rattle.guid.specs.Text.{dash, textOf}
 use Rattle.words.proofs.LentLaws.{back, lent-over}
-use Rattle.guid.proofs.DigitLaws.{length-text, length-dashed, text-in-fields}
+use Rattle.guid.proofs.TextLaws.{length-text, length-dashed, text-in-fields}
 use borrow.Author.Needs.{needs}
 use Rattle.guid.proofs.Guid.print.Statement.{statement}
 use Rattle.guid.proofs.Guid.print.Tie as tie
@@ -24,7 +24,8 @@ returns c =
     let xs : List ℕ = c .before .before .before .args .out .now in
     let size : c .before .text-size .result ≡ length (textOf g) = c .before .text-size .ensures in
     let short : length xs < length (textOf g) = omega arith in
-    (rw (lt-ltb (length xs) (length (textOf g)) short, size), sym (fitted-short (textOf g) xs short))
+    let tested = lt-ltb (length xs) (length (textOf g)) short in
+    (rw (tested, size), rw tested)
 
 put-dashed-requires : tie.Need-put-dashed-requires
 put-dashed-requires c κs = omega (arith, length-text (c .before .before .before .before .args .self), c .before .before .text-size .ensures, c .before .if1 .left)
@@ -101,7 +102,8 @@ returns-2 c =
     let e2 : s2 ≡ over (f3 ++ f2) xs = lent-over f3 f2 xs s3 (p2 .last .0) (p3 .result) (p3 .ensures .1) l3 (omega (arith, p3 .ensures .0, p2 .ensures .0)) (p2 .ensures .1) in
     let e1 : s1 ≡ over (f3 ++ f2 ++ f1) xs = lent-over (f3 ++ f2) f1 xs s2 (p1 .last .0) (p3 .result + p2 .result) e2 m2 (omega (arith, p3 .ensures .0, p2 .ensures .0, p1 .ensures .0)) (p1 .ensures .1) in
     let e0 : s0 ≡ over (f3 ++ f2 ++ f1 ++ f0) xs = lent-over (f3 ++ f2 ++ f1) f0 xs s1 (p0 .last .0) (p3 .result + p2 .result + p1 .result) e1 m1 (omega (arith, p3 .ensures .0, p2 .ensures .0, p1 .ensures .0)) (p0 .ensures .1) in
-    (rw (le-ltb (length xs) (length (textOf g)) room, size), e0 ∙ ap (λ (l : List ℕ). over l xs) (text-in-fields g) ∙ sym (fitted-fits (textOf g) xs room))
+    let tested = le-ltb (length xs) (length (textOf g)) room in
+    (rw (tested, size), rw tested (e0 ∙ ap (λ (l : List ℕ). over l xs) (text-in-fields g)))
 
 pub print-spec : {M : Type 1} → statement M
 print-spec =

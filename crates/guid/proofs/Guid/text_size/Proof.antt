@@ -3,34 +3,34 @@
 use native.Mathlib.Omega.{arith}
 use lib.ListN.{length-append}
 use Rattle.guid.specs.Text.{textOf}
-use Rattle.guid.proofs.DigitLaws.{length-spelled-most}
+use Rattle.numerals.proofs.SpelledLaws.{length-spelled-most}
 use borrow.Author.Needs.{needs}
 use Rattle.guid.proofs.Guid.text_size.Statement.{statement}
 use Rattle.guid.proofs.Guid.text_size.Tie as tie
 
-digits-requires : tie.Need-digits-requires
-digits-requires c κs = search needs
+hex-size-requires : tie.Need-hex-size-requires
+hex-size-requires c κs = search needs
 
-digits-requires-2 : tie.Need-digits-requires-2
-digits-requires-2 c κs = search needs
+hex-size-requires-2 : tie.Need-hex-size-requires-2
+hex-size-requires-2 c κs = search needs
 
 add-result : tie.Need-add-result
-add-result c = omega (arith, length-spelled-most 8 (c .before .before .args .self .w3), length-spelled-most 8 (c .before .before .args .self .w2))
+add-result c = omega (arith, length-spelled-most 16 8 (c .before .before .args .self .w3), length-spelled-most 16 8 (c .before .before .args .self .w2))
 
-digits-requires-3 : tie.Need-digits-requires-3
-digits-requires-3 c κs = search needs
+hex-size-requires-3 : tie.Need-hex-size-requires-3
+hex-size-requires-3 c κs = search needs
 
 add-result-2 : tie.Need-add-result-2
-add-result-2 c = omega (arith, length-spelled-most 8 (c .before .before .before .args .self .w3), length-spelled-most 8 (c .before .before .before .args .self .w2), length-spelled-most 8 (c .before .before .before .args .self .w1))
+add-result-2 c = omega (arith, length-spelled-most 16 8 (c .before .before .before .args .self .w3), length-spelled-most 16 8 (c .before .before .before .args .self .w2), length-spelled-most 16 8 (c .before .before .before .args .self .w1))
 
-digits-requires-4 : tie.Need-digits-requires-4
-digits-requires-4 c κs = search needs
+hex-size-requires-4 : tie.Need-hex-size-requires-4
+hex-size-requires-4 c κs = search needs
 
 add-result-3 : tie.Need-add-result-3
-add-result-3 c = omega (arith, length-spelled-most 8 (c .before .before .before .before .args .self .w3), length-spelled-most 8 (c .before .before .before .before .args .self .w2), length-spelled-most 8 (c .before .before .before .before .args .self .w1), length-spelled-most 8 (c .before .before .before .before .args .self .w0))
+add-result-3 c = omega (arith, length-spelled-most 16 8 (c .before .before .before .before .args .self .w3), length-spelled-most 16 8 (c .before .before .before .before .args .self .w2), length-spelled-most 16 8 (c .before .before .before .before .args .self .w1), length-spelled-most 16 8 (c .before .before .before .before .args .self .w0))
 
 add-result-4 : tie.Need-add-result-4
-add-result-4 c = omega (arith, length-spelled-most 8 (c .before .before .before .before .args .self .w3), length-spelled-most 8 (c .before .before .before .before .args .self .w2), length-spelled-most 8 (c .before .before .before .before .args .self .w1), length-spelled-most 8 (c .before .before .before .before .args .self .w0))
+add-result-4 c = omega (arith, length-spelled-most 16 8 (c .before .before .before .before .args .self .w3), length-spelled-most 16 8 (c .before .before .before .before .args .self .w2), length-spelled-most 16 8 (c .before .before .before .before .args .self .w1), length-spelled-most 16 8 (c .before .before .before .before .args .self .w0))
 
 returns : tie.Need-returns
 unfolding textOf
@@ -40,12 +40,12 @@ pub text-size-spec : {M : Type 1} → statement M
 text-size-spec =
     tie.close
     (tie.spec
-    digits-requires
-    digits-requires-2
+    hex-size-requires
+    hex-size-requires-2
     add-result
-    digits-requires-3
+    hex-size-requires-3
     add-result-2
-    digits-requires-4
+    hex-size-requires-4
     add-result-3
     add-result-4
     returns)

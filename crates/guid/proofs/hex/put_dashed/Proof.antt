@@ -1,8 +1,8 @@
 -- `hex::put_dashed` meets its contract. Assumes nothing.
 use mathlib.Core.Path.{ap}
 use Prim.Native.Nat.{ℕ, _+_}
-use Rattle.guid.specs.Text.{hex}
-use Rattle.guid.proofs.DigitLaws.{dashed}
+use Rattle.numerals.specs.Statement.{hex}
+use Rattle.guid.proofs.TextLaws.{dashed}
 use borrow.Author.Needs.{needs}
 use Rattle.guid.proofs.hex.put_dashed.Statement.{statement}
 use Rattle.guid.proofs.hex.put_dashed.Tie as tie

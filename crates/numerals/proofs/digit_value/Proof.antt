@@ -1,11 +1,11 @@
--- `hex::digit_value` meets its contract: each arm's value is that of its bytes, and what is left lies in no run of digits.
+-- `digit_value` meets its contract: each arm's value is that of its bytes, and what is left lies in no run of digits.
 -- Assumes nothing.
 use mathlib.Core.Path.{sym, ap}
 use mathlib.Core.Logic.{⊎-elim, inl, inr}
-use Rattle.guid.specs.Text.{digitOf}
-use Rattle.guid.proofs.FieldLaws.{past, other-byte}
-use Rattle.guid.proofs.hex.digit_value.Statement.{statement}
-use Rattle.guid.proofs.hex.digit_value.Tie as tie
+use Rattle.words.specs.Text.{digitOf}
+use Rattle.numerals.proofs.ByteLaws.{past, other-byte}
+use Rattle.numerals.proofs.digit_value.Statement.{statement}
+use Rattle.numerals.proofs.digit_value.Tie as tie
 
 returns : tie.Need-returns
 unfolding digitOf

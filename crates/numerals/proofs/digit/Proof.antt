@@ -1,9 +1,9 @@
--- `hex::digit` meets its contract. Assumes nothing.
+-- `digit` meets its contract. Assumes nothing.
 use borrow.Author.Tests.{lt-ltb, le-ltb}
-use Rattle.guid.specs.Text.{digit}
+use Rattle.words.specs.Text.{digit}
 use borrow.Author.Needs.{needs}
-use Rattle.guid.proofs.hex.digit.Statement.{statement}
-use Rattle.guid.proofs.hex.digit.Tie as tie
+use Rattle.numerals.proofs.digit.Statement.{statement}
+use Rattle.numerals.proofs.digit.Tie as tie
 
 add-result : tie.Need-add-result
 add-result c = search needs

@@ -1,0 +1,35 @@
+-- `parsed_outcome` meets its contract, case by case. Assumes nothing.
+use Rattle.words.proofs.PaperLaws.{case}
+use Rattle.guid.specs.Paper.{parsedPaper}
+use borrow.Author.Needs.{needs}
+use Rattle.guid.proofs.parsed_outcome.Statement.{statement}
+use Rattle.guid.proofs.parsed_outcome.Tie as tie
+
+enum-told : tie.Need-enum-told
+enum-told c = search needs
+
+refusal-requires : tie.Need-refusal-requires
+refusal-requires c κs = search needs
+
+enum-known-answer : tie.Need-enum-known-answer
+enum-known-answer c = search needs
+
+words-outcome-requires : tie.Need-words-outcome-requires
+words-outcome-requires c κs = search needs
+
+returns : tie.Need-returns
+returns c = case parsedPaper (c .before .enum-told .given .1) (c .refusal .ensures)
+
+returns-2 : tie.Need-returns-2
+returns-2 c = case parsedPaper (c .before .before .answer .given .1) (c .words-outcome .ensures)
+
+pub parsed-outcome-spec : {M : Type 1} → statement M
+parsed-outcome-spec =
+    tie.close
+    (tie.spec
+    enum-told
+    refusal-requires
+    enum-known-answer
+    words-outcome-requires
+    returns
+    returns-2)

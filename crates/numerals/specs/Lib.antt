@@ -1,0 +1,2 @@
+-- Numbers as text, and what each function promises.
+pub mod Statement
