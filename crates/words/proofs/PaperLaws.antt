@@ -9,16 +9,22 @@ use Rattle.words.specs.Paper.{roomNumber, noRoomValues, outcome}
 use Rattle.words.specs.declared.outcome.Outcome.{Outcome}
 use Rattle.words.specs.declared.outcome.NoRoom.{NoRoom}
 use Rattle.words.specs.declared.outcome.Room.{Room}
-use Rattle.words.specs.declared.outcome.Room.the-variants.{Parts, Rows, Values, Output}
+use Rattle.words.specs.declared.outcome.Room.the-variants.{Parts, Rows, Values, Output, Items, Errors, Attributes}
 
 abbrev pub roomOf : ℕ → Room
-roomOf n = decide (n =? 1 ⇒ Parts ∷ n =? 2 ⇒ Rows ∷ n =? 3 ⇒ Values ∷ []) Output
+roomOf n =
+    decide
+    (n =? 1 ⇒ Parts ∷ n =? 2 ⇒ Rows ∷ n =? 3 ⇒ Values ∷ n =? 4 ⇒ Output ∷ n =? 5 ⇒ Items ∷ n =? 6 ⇒ Errors ∷ [])
+    Attributes
 
 pub room-back : (room : Room) → roomOf (roomNumber room) ≡ room
 room-back Parts = refl
 room-back Rows = refl
 room-back Values = refl
 room-back Output = refl
+room-back Items = refl
+room-back Errors = refl
+room-back Attributes = refl
 
 abbrev pub noRoomOf : List ℕ → NoRoom
 noRoomOf values = record { room = roomOf (getD values 0 0); needed = getD values 1 0; given = getD values 2 0 }

@@ -8,14 +8,18 @@ use Rattle.words.specs.Decide.{Line, _⇒_, _<?_}
 use Rattle.words.specs.declared.outcome.Outcome.{Outcome}
 use Rattle.words.specs.declared.outcome.NoRoom.{NoRoom}
 use Rattle.words.specs.declared.outcome.Room.{Room}
-use Rattle.words.specs.declared.outcome.Room.the-variants.{Parts, Rows, Values, Output}
+use Rattle.words.specs.declared.outcome.Room.the-variants.{Parts, Rows, Values, Output, Items, Errors, Attributes}
 
--- "17 NoRoom: which (1 parts, 2 rows, 3 values, 4 output), needed, given"
+-- "17 NoRoom: which (1 parts, 2 rows, 3 values, 4 output), needed, given"; document 02 adds 5 items (A4), 6 errors and 7
+-- attributes (A10)
 abbrev pub roomNumber : Room → ℕ
 roomNumber Parts = 1
 roomNumber Rows = 2
 roomNumber Values = 3
 roomNumber Output = 4
+roomNumber Items = 5
+roomNumber Errors = 6
+roomNumber Attributes = 7
 
 abbrev pub noRoomValues : NoRoom → List ℕ
 noRoomValues short = roomNumber (short .room) ∷ short .needed ∷ short .given ∷ []

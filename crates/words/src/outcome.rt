@@ -35,6 +35,9 @@ pub enum Room {
     Rows,
     Values,
     Output,
+    Items,
+    Errors,
+    Attributes,
 }
 
 // 17: what ran short, how much of it is needed and how much was lent: whole entries, or bytes of an output.
@@ -107,6 +110,9 @@ pub fn room_number(room: Room) -> u64
         Room::Rows => 2,
         Room::Values => 3,
         Room::Output => 4,
+        Room::Items => 5,
+        Room::Errors => 6,
+        Room::Attributes => 7,
     }
 }
 
