@@ -11,14 +11,18 @@ use lib.Seq.{take-at, drop-at, drop-drop, length-take-le, set-split}
 use Rattle.words.specs.Buffer.{over, fitted}
 use Rattle.words.proofs.BufferLaws.{fitted-fits}
 use Rattle.words.proofs.LentLaws.{tail, back, tail-is-drop}
-use Rattle.guid.proofs.DigitLaws.{length-text, length-spelled-most}
+use Rattle.numerals.specs.Statement.{decimal}
+use Rattle.numerals.proofs.SpelledLaws.{length-spelled-most}
+use Rattle.guid.proofs.TextLaws.{length-text}
+use Rattle.words.specs.Text.{text}
 use Rattle.guid.specs.declared.Guid.{Guid}
-use Rattle.guid.specs.Text.{textOf}
+use Rattle.guid.specs.Text.{textOf, printing}
+use Rattle.words.specs.Statement.{Holds}
 use Rattle.packet.specs.declared.Packet.{Packet}
 use Rattle.packet.specs.Paper.{typeNumber, fieldsOf}
-use Rattle.packet.specs.Reading.{nullLength}
-use Rattle.listing.specs.Text.{spelled, decimal, line, packet, part, null, end, more, refused, lengthText, packetLine, partLine, partLines, endLine, moreLine, refusedLine}
-use Rattle.listing.specs.Statement.{placed, Wrote}
+use Rattle.packet.specs.Reading.{entryWords, nullLength}
+use Rattle.listing.specs.Text.{line, lengthText, packetLine, partLine, partLines, endLine, moreLine, refusedLine}
+use Rattle.listing.specs.Stages.{placed, Wrote}
 
 pub length-placed : (at : ℕ) (ws xs : List ℕ) → at + length ws ≤ length xs → length (placed at ws xs) ≡ length xs
 unfolding placed
@@ -58,6 +62,10 @@ pub wrote-front : {ws xs : List ℕ} {r : ℕ} {ys : List ℕ} → Wrote ws 0 xs
 unfolding placed
 wrote-front {ws} {xs} w = (w .ends ∙ zero-add (length ws), w .holds ∙ ap (λ (k : ℕ). ws ++ drop k xs) (zero-add (length ws)))
 
+-- what fits at a place fits the tail that is lent from there
+pub fits-tail : (ws xs : List ℕ) (at : ℕ) → at + length ws ≤ length xs → length ws ≤ length (tail xs at)
+fits-tail ws xs at room = rw (tail-is-drop xs at) (simp length-drop (omega arith))
+
 -- over the front of a tail that is lent
 pub wrote-tail : (ws xs last : List ℕ) (at : ℕ) → at + length ws ≤ length xs → last ≡ fitted ws (tail xs at) → back xs at last ≡ placed at ws xs
 unfolding placed
@@ -67,39 +75,17 @@ wrote-tail ws xs last at room wrote =
     let nothing : drop (length xs - at) (drop at xs) ≡ [] = drop-of-length-le (drop at xs) {i = length xs - at} (simp length-drop (omega arith)) in
     rw (nothing, append-nil last, wrote, fitted-fits ws (tail xs at) fits, here, drop-drop (length ws) at xs, append-assoc (take at xs) ws (drop (at + length ws) xs))
 
--- the shapes of a number's digits
-pub spelled-one : (k n : ℕ) → n < 10 → spelled (suc k) n ≡ (48 + n) ∷ []
-unfolding spelled
-spelled-one k n h = rw (lt-ltb n 10 h)
-
-pub spelled-more : (k n : ℕ) → 10 ≤ n → spelled (suc k) n ≡ spelled k (n / 10) ++ (48 + n % 10) ∷ []
-unfolding spelled
-spelled-more k n h = rw (le-ltb n 10 h)
-
--- what is left of a number of at least two digits without its last one
-pub digits-left : (most n : ℕ) → 10 ≤ n → n < 10 ^ most → (1 < most) × (n / 10 < 10 ^ (most - 1))
-digits-left zero n many fits = absurd (omega arith)
-digits-left (suc zero) n many fits = absurd (omega arith)
-digits-left (suc (suc k)) n many fits =
-    let scaled : 10 ^ suc (suc k) ≡ 10 * 10 ^ suc k = pow-succ' 10 (suc k) in
-    let one-less : suc (suc k) - 1 ≡ suc k = omega arith in
-    (omega arith, rw one-less (omega arith))
-
--- a number of one digit, and one of more, the last digit behind the others
-pub digit-written : (most n at : ℕ) (xs : List ℕ) → 0 < most → n < 10 → at + most ≤ length xs → Wrote (spelled most n) at xs (at + 1) (set xs at (48 + n))
-digit-written most n at xs some one room =
-    let more : most ≡ suc (most - 1) = omega arith in
-    rw (more, spelled-one (most - 1) n one) (wrote-byte at (48 + n) xs (omega arith))
-
-pub digits-written : (most n : ℕ) {at m : ℕ} {xs ys : List ℕ} → 0 < most → 10 ≤ n → at + most ≤ length xs → m ≤ at + (most - 1)
-    → Wrote (spelled (most - 1) (n / 10)) at xs m ys → Wrote (spelled most n) at xs (m + 1) (set ys m (48 + n % 10))
-digits-written most n {at} {m} {xs} {ys} some many room short first =
-    let more : most ≡ suc (most - 1) = omega arith in
-    rw (more, spelled-more (most - 1) n many) (wrote-behind (48 + n % 10) (omega (arith, first .ends)) first)
+-- a number over the front of a tail that is lent, and a byte behind it
+pub decimal-short : (n : ℕ) → length (decimal n) ≤ 20
+decimal-short n = length-spelled-most 10 20 n
 
 -- the id has at most 35 bytes
 pub id-short : (g : Guid) → length (textOf g) ≤ 35
-id-short g = omega (arith, length-text g, length-spelled-most 8 (g .w0), length-spelled-most 8 (g .w1), length-spelled-most 8 (g .w2), length-spelled-most 8 (g .w3))
+id-short g = omega (arith, length-text g, length-spelled-most 16 8 (g .w0), length-spelled-most 16 8 (g .w1), length-spelled-most 16 8 (g .w2), length-spelled-most 16 8 (g .w3))
+
+-- an id that fits is printed over the front
+pub printed-fits : (g : Guid) (before after : List ℕ) → length (textOf g) ≤ length before → Holds (printing g (length before)) (textOf g) before after → after ≡ fitted (textOf g) before
+printed-fits g before after fits holds = (rw (le-ltb (length before) (length (textOf g)) fits) at holds) ∙ sym (fitted-fits (textOf g) before fits)
 
 -- The lines, from the pieces that they are written in.
 
@@ -107,24 +93,24 @@ joined-five : (a b c d e : List ℕ) → (a ++ 32 ∷ []) ++ (b ++ 32 ∷ []) ++
 joined-five a b c d e = simp append-assoc
 
 pub packet-text : (offset type : ℕ) (p : Packet) → type ≡ typeNumber (p .«packet_type»)
-    → packet ++ (32 ∷ []) ++ (decimal offset ++ 32 ∷ []) ++ (decimal type ++ 32 ∷ []) ++ (decimal (p .flags .0) ++ 32 ∷ []) ++ (textOf (p .id) ++ 32 ∷ []) ++ (decimal (p .parts) ++ 10 ∷ []) ≡ packetLine offset (fieldsOf p)
+    → text "packet" ++ (32 ∷ []) ++ (decimal offset ++ 32 ∷ []) ++ (decimal type ++ 32 ∷ []) ++ (decimal (p .flags .0) ++ 32 ∷ []) ++ (textOf (p .id) ++ 32 ∷ []) ++ (decimal (p .parts) ++ 10 ∷ []) ≡ packetLine offset (fieldsOf p)
 unfolding packetLine
 packet-text offset type p e =
-    rw e (ap (λ (l : List ℕ). packet ++ 32 ∷ l) (joined-five (decimal offset) (decimal (typeNumber (p .«packet_type»))) (decimal (p .flags .0)) (textOf (p .id)) (decimal (p .parts) ++ 10 ∷ [])))
+    rw e (ap (λ (l : List ℕ). text "packet" ++ 32 ∷ l) (joined-five (decimal offset) (decimal (typeNumber (p .«packet_type»))) (decimal (p .flags .0)) (textOf (p .id)) (decimal (p .parts) ++ 10 ∷ [])))
 
-pub part-text : (index size : ℕ) → part ++ (32 ∷ []) ++ (decimal index ++ 32 ∷ []) ++ line (lengthText size ∷ []) ≡ partLine index size
+pub part-text : (index size : ℕ) → text "part" ++ (32 ∷ []) ++ (decimal index ++ 32 ∷ []) ++ line (lengthText size ∷ []) ≡ partLine index size
 unfolding partLine
 part-text index size = simp append-assoc
 
-pub end-text : (offset : ℕ) → end ++ (32 ∷ []) ++ (decimal offset ++ 10 ∷ []) ≡ endLine offset
+pub end-text : (offset : ℕ) → text "end" ++ (32 ∷ []) ++ (decimal offset ++ 10 ∷ []) ≡ endLine offset
 unfolding endLine
 end-text offset = refl
 
-pub more-text : (offset : ℕ) → more ++ (32 ∷ []) ++ (decimal offset ++ 10 ∷ []) ≡ moreLine offset
+pub more-text : (offset : ℕ) → text "more" ++ (32 ∷ []) ++ (decimal offset ++ 10 ∷ []) ≡ moreLine offset
 unfolding moreLine
 more-text offset = refl
 
-pub refused-text : (offset number : ℕ) → refused ++ (32 ∷ []) ++ (decimal offset ++ 32 ∷ []) ++ (decimal number ++ 10 ∷ []) ≡ refusedLine offset number
+pub refused-text : (offset number : ℕ) → text "refused" ++ (32 ∷ []) ++ (decimal offset ++ 32 ∷ []) ++ (decimal number ++ 10 ∷ []) ≡ refusedLine offset number
 unfolding refusedLine
 refused-text offset number = simp append-assoc
 
@@ -133,14 +119,14 @@ pub wrote-as : {ws vs : List ℕ} {at r : ℕ} {xs ys : List ℕ} → ws ≡ vs 
 wrote-as {at = at} {r = r} {xs = xs} {ys = ys} e w = subst (λ (l : List ℕ). Wrote l at xs r ys) e w
 
 -- a part's length, null or not
-pub null-length : (size : ℕ) → size ≡ nullLength → null ++ (10 ∷ []) ≡ line (lengthText size ∷ [])
+pub null-length : (size : ℕ) → size ≡ nullLength → text "null" ++ (10 ∷ []) ≡ line (lengthText size ∷ [])
 null-length size e = rw (eq-eqb size nullLength e)
 
 pub some-length : (size : ℕ) → (size ≡ nullLength → ⊥) → decimal size ++ (10 ∷ []) ≡ line (lengthText size ∷ [])
 some-length size ne = rw (ne-eqb size nullLength ne)
 
 -- the lines of the parts, one after the other
-more-lines : (entries : List ℕ) (i : ℕ) → partLines entries i ++ partLine i (getD entries (2 * i + 1) 0) ≡ partLines entries (i + 1)
+more-lines : (entries : List ℕ) (i : ℕ) → partLines entries i ++ partLine i (getD entries (entryWords * i + 1) 0) ≡ partLines entries (i + 1)
 unfolding partLines
 more-lines entries i = rw (add-one i)
 
@@ -148,15 +134,15 @@ pub no-parts : (entries : List ℕ) (at : ℕ) (xs : List ℕ) → Wrote (partLi
 unfolding partLines placed
 no-parts entries at xs = record { ends = sym (add-zero at); holds = rw (add-zero at, append-nil (take at xs)) (sym (take-append-drop at xs)) }
 
-pub part-more : (entries : List ℕ) (i : ℕ) {at m r : ℕ} {xs ys zs : List ℕ} → m ≤ length xs → Wrote (partLines entries i) at xs m ys → Wrote (partLine i (getD entries (2 * i + 1) 0)) m ys r zs
+pub part-more : (entries : List ℕ) (i : ℕ) {at m r : ℕ} {xs ys zs : List ℕ} → m ≤ length xs → Wrote (partLines entries i) at xs m ys → Wrote (partLine i (getD entries (entryWords * i + 1) 0)) m ys r zs
     → Wrote (partLines entries (i + 1)) at xs r zs
 part-more entries i room first second = wrote-as (more-lines entries i) (wrote-then room first second)
 
 -- two tables that agree on the entries' words
-pub parts-same : (es ts : List ℕ) (n : ℕ) → ((k : ℕ) → k < 2 * n → getD es k 0 ≡ getD ts k 0) → partLines es n ≡ partLines ts n
+pub parts-same : (es ts : List ℕ) (n : ℕ) → ((k : ℕ) → k < entryWords * n → getD es k 0 ≡ getD ts k 0) → partLines es n ≡ partLines ts n
 unfolding partLines
 parts-same es ts zero same = refl
-parts-same es ts (suc n) same = rw (parts-same es ts n (λ k below. same k (omega arith)), same (2 * n + 1) (omega arith))
+parts-same es ts (suc n) same = rw (parts-same es ts n (λ k below. same k (omega arith)), same (entryWords * n + 1) (omega arith))
 
 -- all of them
 pub parts-all : (entries : List ℕ) (i n : ℕ) {at r : ℕ} {xs ys : List ℕ} → i ≤ n → n ≤ i → Wrote (partLines entries i) at xs r ys → Wrote (partLines entries n) at xs r ys

@@ -1,21 +1,23 @@
--- Laws of the walk's step: what an accepted packet is known to be, and each answer of the step. Assumes nothing.
+-- Laws of the walk: what an accepted packet is known to be, each answer of a step, and the steps together. Assumes nothing.
 use mathlib.Core.Path.{_≡_, refl, sym, _∙_, ap, subst}
-use mathlib.Core.Bool.{Bool, true, false, not}
-use mathlib.Core.List.{List, [], _∷_, _++_}
-use Prim.Native.Nat.{ℕ, _+_, _*_, _-_, _<_, _≤_, min}
+use mathlib.Core.Bool.{Bool, true, false, not, or-true, true≢false}
+use mathlib.Core.List.{List, [], _∷_, _++_, append-assoc}
+use Prim.Native.Nat.{ℕ, zero, suc, _+_, _*_, _-_, _<_, _≤_, min}
 use native.Mathlib.Omega.{arith}
 use borrow.Author.Tests.{lt-ltb, le-ltb, le-leb, lt-leb, ltb-false}
 use lib.ListN.{length, getD, drop, length-append, length-drop, List·getD-append}
 use Rattle.words.specs.Answer.{Answer, accepted, more, refused, refuse, afterwards}
 use Rattle.words.specs.Buffer.{over, stretch}
-use Rattle.words.specs.Decide.{pick, _<?_, _⇒_, decide}
+use Rattle.words.specs.Decide.{pick, _<?_, _=?_, _⇒_, decide}
+use Rattle.words.specs.Text.{text}
+use Rattle.words.specs.declared.outcome.Room.the-variants.{Output}
 use Rattle.words.proofs.LentLaws.{tail, tail-is-drop}
 use Rattle.packet.specs.declared.Decoded.{Decoded}
 use Rattle.packet.specs.declared.Decoded.the-variants.{Read, More, Refused}
 use Rattle.packet.specs.declared.Packet.{Packet}
 use Rattle.packet.specs.declared.PacketError.{PacketError}
 use Rattle.packet.specs.Layout.{mostParts, hasVariableHeader, type, count, fields, whole}
-use Rattle.packet.specs.Reading.{order, reading, room, entries}
+use Rattle.packet.specs.Reading.{order, reading, entryWords, room, entries}
 use Rattle.packet.specs.Paper.{numberOf, fieldsOf}
 use Rattle.packet.specs.Paper as Packet
 use Rattle.packet.specs.Statement.{Decodes}
@@ -23,12 +25,12 @@ use Rattle.packet.specs.Stages.{linesOf}
 use Rattle.packet.proofs.OrderLaws.{order-split}
 use Rattle.packet.proofs.EntryLaws.{length-entries}
 use Rattle.packet_table.proofs.CheckLaws.{silent, acceptedCount}
-use Rattle.listing.specs.declared.Listed.{Listed}
 use Rattle.listing.specs.declared.Listed.the-variants as Listed
 use Rattle.listing.specs.Text.{packetLine, partLines, endLine, moreLine, refusedLine}
-use Rattle.listing.specs.Walk.{textRoom, byteLimit, partCeiling, Step, last, answered, stepping, tableThen, textThen, stepAnswer}
-use Rattle.listing.specs.Statement.{paper, Lists, Wrote}
-use Rattle.listing.proofs.TextLaws.{wrote-front, wrote-as, parts-same}
+use Rattle.listing.specs.Output.{mostBytes, byteLimit, partCeiling, textRoom, answer, answered, linesThen, linesFrom, output}
+use Rattle.listing.specs.Statement.{Lists}
+use Rattle.listing.specs.Stages.{placed, Wrote, LastLine, PacketLines}
+use Rattle.listing.proofs.TextLaws.{wrote-then, wrote-front, wrote-as, parts-same}
 
 acceptedFields : Answer → List ℕ
 acceptedFields (accepted consumed fields) = fields
@@ -39,19 +41,27 @@ acceptedFields (refused number values consumed) = []
 pub record Accepts (s : List ℕ) (ceiling consumed : ℕ) (found : List ℕ) : Type 0 where
   pub read : found ≡ fields s
   pub few : count s ≤ ceiling
-  pub some : 36 ≤ consumed
+  pub some : 36 + 12 * count s ≤ consumed
   pub inside : consumed ≤ length s
+
+-- without a variable header there are no parts
+bare-count : (type n : ℕ) → not (hasVariableHeader type n) ≡ true → n ≡ 0
+bare-count type zero none = refl
+bare-count type (suc n) none =
+    let some : not (hasVariableHeader type (suc n)) ≡ false = rw (lt-ltb 0 (suc n) (omega arith), or-true (type =? 0)) in
+    absurd (true≢false (sym none ∙ some))
 
 module _ (s : List ℕ) (limit ceiling room consumed : ℕ) (found : List ℕ) where
   abbrev body : Answer
   body = linesOf s (count s) limit ceiling room 6 8 (accepted (whole s (count s)) (fields s))
 
   -- with a variable header or without
-  behind-count : 36 ≤ length s → count s ≤ ceiling → (bare : Bool) → pick bare (accepted 36 (fields s)) body ≡ accepted consumed found → Accepts s ceiling consumed found
+  behind-count : 36 ≤ length s → count s ≤ ceiling → (bare : Bool) → not (hasVariableHeader (type s) (count s)) ≡ bare → pick bare (accepted 36 (fields s)) body ≡ accepted consumed found → Accepts s ceiling consumed found
   unfolding order acceptedFields
-  behind-count long few true e =
+  behind-count long few true none e =
+      let no-parts : count s ≡ 0 = bare-count (type s) (count s) none in
       record { read = sym (ap acceptedFields e); few = few; some = omega (arith, ap acceptedCount e); inside = omega (arith, ap acceptedCount e) }
-  behind-count long few false e =
+  behind-count long few false none e =
       let rest = silent (stretch (order s (count s) limit ceiling room) 6 8) (refl, (refl, (refl, (refl, (refl, (refl, (refl, (refl, tt)))))))) e refl in
       let there = ltb-false (length s) (whole s (count s)) (rest .0 .1 .1 .1 .1 .1 .0) in
       record { read = sym (ap acceptedFields (rest .1)); few = few; some = omega (arith, ap acceptedCount (rest .1)); inside = omega (arith, ap acceptedCount (rest .1)) }
@@ -66,100 +76,140 @@ module _ (s : List ℕ) (limit ceiling room consumed : ℕ) (found : List ℕ) w
       let counted = silent ((min mostParts ceiling <? n ⇒ refuse 3 (n ∷ [])) ∷ []) {last = decide ((not (hasVariableHeader (type s) n) ⇒ accepted 36 (fields s)) ∷ []) body} (refl, tt) (fixed .1) refl in
       let long = ltb-false (length s) 36 (fixed .0 .0) in
       let low = ltb-false (min mostParts ceiling) n (counted .0 .0) in
-      behind-count long (omega arith) (not (hasVariableHeader (type s) n)) (counted .1)
+      behind-count long (omega arith) (not (hasVariableHeader (type s) n)) refl (counted .1)
 
 -- a text over the front of a buffer that keeps its length fits it
 pub text-fits : {ws xs ys : List ℕ} {r : ℕ} → Wrote ws 0 xs r ys → length ys ≡ length xs → r ≤ length xs
-text-fits {ws} {xs} wrote kept =
+text-fits wrote kept =
     let front = wrote-front wrote in
     omega (arith, front .0, simp (length-append, length-drop) at (ap length (front .1)))
 
-module _ (input : List ℕ) (offset : ℕ) (table text : List ℕ) where
-  -- no room for a text
-  pub listed-short : length text < textRoom → Lists input offset table text (Listed.NoRoom textRoom (length text)) table text
-  unfolding stepping tableThen
-  listed-short h =
-      let so = lt-ltb (length text) textRoom h in
-      record { answer = rw so; tables = rw so; texts = rw so }
+-- The step's answers
 
-  module _ (fits : textRoom ≤ length text) where
-    -- no bytes left
-    pub listed-end : {count : ℕ} {text′ : List ℕ} → length input ≤ offset → Wrote (endLine offset) 0 text count text′ → Lists input offset table text (Listed.Last count) table text′
-    unfolding stepping tableThen
-    listed-end h wrote =
-        let roomy = le-ltb (length text) textRoom fits in
-        let over-all = le-leb (length input) offset h in
-        let front = wrote-front wrote in
-        record { answer = rw (roomy, over-all, front .0); tables = rw (roomy, over-all); texts = rw (roomy, over-all) (front .1) }
+module _ (s : List ℕ) (offset at : ℕ) (before : List ℕ) where
+  -- no bytes left
+  pub ends-here : {end : ℕ} {after : List ℕ} → length s ≤ offset → Wrote (endLine offset) at before end after → LastLine s offset at before end after
+  unfolding linesThen
+  ends-here past wrote = record { lines = endLine offset; are = λ later. rw (le-leb (length s) offset past); wrote = wrote }
 
-    module _ (some : offset < length input) (table′ : List ℕ) where
-      -- the reader's answer
-      abbrev Read-as : Decoded → Type 0
-      Read-as r = Decodes (tail input offset) byteLimit partCeiling table r table′
+  module _ (some : offset < length s) (table table′ : List ℕ) (roomy : length table ≡ entryWords * partCeiling) where
+    -- the reader's answer
+    abbrev Reads : Decoded → Type 0
+    Reads r = Decodes (tail s offset) byteLimit partCeiling table r table′
 
-      at-rest : (r : Decoded) → Read-as r → Decodes (drop offset input) byteLimit partCeiling table r table′
-      at-rest r d = subst (λ (s : List ℕ). Decodes s byteLimit partCeiling table r table′) (tail-is-drop input offset) d
+    at-rest : (r : Decoded) → Reads r → Decodes (drop offset s) byteLimit partCeiling table r table′
+    at-rest r d = subst (λ (t : List ℕ). Decodes t byteLimit partCeiling table r table′) (tail-is-drop s offset) d
 
-      step-is : (r : Decoded) → Read-as r → stepping input offset table (length text) ≡ answered offset (drop offset input) (Packet.paper r)
-      unfolding stepping
-      step-is r d =
-          rw (le-ltb (length text) textRoom fits, lt-leb (length input) offset some) (ap (answered offset (drop offset input)) (sym (at-rest r d .answer)))
+    answered-so : (r : Decoded) → Reads r → answer s offset ≡ Packet.paper r
+    answered-so r d =
+        let rooms : room table ≡ partCeiling = omega arith in
+        sym (at-rest r d .answer ∙ ap (reading (drop offset s) byteLimit partCeiling) rooms)
 
-      table-is : (r : Decoded) → Read-as r → table′ ≡ tableThen input offset table (length text)
-      unfolding tableThen
-      table-is r d =
-          rw (le-ltb (length text) textRoom fits, lt-leb (length input) offset some)
-          (at-rest r d .tables ∙ ap (λ (a : Answer). afterwards a (entries (drop offset input)) table) (at-rest r d .answer))
+    lines-so : (r : Decoded) → Reads r → (later : ℕ → List ℕ) → linesThen s offset later ≡ answered s offset later (Packet.paper r)
+    unfolding linesThen
+    lines-so r d later = rw (lt-leb (length s) offset some) (ap (answered s offset later) (answered-so r d))
 
-      -- an answer of the reader and its lines
-      listed : (r : Decoded) (d : Read-as r) (result : Listed) {text′ : List ℕ}
-          → paper result ≡ stepAnswer (answered offset (drop offset input) (Packet.paper r)) → text′ ≡ textThen (answered offset (drop offset input) (Packet.paper r)) text
-          → Lists input offset table text result table′ text′
-      listed r d result answers holds =
-          let step = step-is r d in
-          record { answer = answers ∙ sym (ap stepAnswer step); tables = table-is r d; texts = holds ∙ sym (ap (λ (z : Step). textThen z text) step) }
+    pub unfinished : {end : ℕ} {after : List ℕ} → Reads More → Wrote (moreLine offset) at before end after → LastLine s offset at before end after
+    unfinished d wrote = record { lines = moreLine offset; are = lines-so More d; wrote = wrote }
 
-      pub listed-more : {count : ℕ} {text′ : List ℕ} → Read-as More → Wrote (moreLine offset) 0 text count text′ → Lists input offset table text (Listed.Last count) table′ text′
-      listed-more {count} d wrote =
-          let front = wrote-front wrote in
-          listed More d (Listed.Last count) (ap (λ (n : ℕ). accepted n []) (front .0)) (front .1)
+    pub refusal : (error : PacketError) {consumed number end : ℕ} {after : List ℕ} → Reads (Refused error consumed) → number ≡ numberOf error
+        → Wrote (refusedLine offset number) at before end after → LastLine s offset at before end after
+    refusal error {consumed} {number} d e wrote =
+        record { lines = refusedLine offset number; are = λ later. lines-so (Refused error consumed) d later ∙ ap (refusedLine offset) (sym e); wrote = wrote }
 
-      pub listed-refused : (error : PacketError) {consumed number count : ℕ} {text′ : List ℕ} → Read-as (Refused error consumed) → number ≡ numberOf error
-          → Wrote (refusedLine offset number) 0 text count text′ → Lists input offset table text (Listed.Last count) table′ text′
-      listed-refused error {consumed} {number} {count} d e wrote =
-          let front = wrote-front (wrote-as (ap (refusedLine offset) e) wrote) in
-          listed (Refused error consumed) d (Listed.Last count) (ap (λ (n : ℕ). accepted n []) (front .0)) (front .1)
+    module _ (packet : Packet) (consumed : ℕ) (d : Reads (Read packet consumed)) where
+      abbrev rest : List ℕ
+      rest = drop offset s
 
-      module _ (packet : Packet) (consumed : ℕ) (d : Read-as (Read packet consumed)) where
-        abbrev rest : List ℕ
-        rest = drop offset input
+      found : Accepts rest partCeiling consumed (fieldsOf packet)
+      found = accepts rest byteLimit partCeiling (room table) consumed (fieldsOf packet) (sym (at-rest (Read packet consumed) d .answer))
 
-        found : Accepts rest partCeiling consumed (fieldsOf packet)
-        found = accepts rest byteLimit partCeiling (room table) consumed (fieldsOf packet) (sym (at-rest (Read packet consumed) d .answer))
+      counted : packet .parts ≡ count rest
+      counted = ap (λ (f : List ℕ). getD f 6 0) (found .read)
 
-        counted : packet .parts ≡ count rest
-        counted = ap (λ (f : List ℕ). getD f 6 0) (found .read)
+      filled : table′ ≡ over (entries rest) table
+      filled = at-rest (Read packet consumed) d .tables
 
-        filled : table′ ≡ over (entries rest) table
-        filled = at-rest (Read packet consumed) d .tables
+      words : length (entries rest) ≡ entryWords * packet .parts
+      words = length-entries rest (count rest) 0 (count rest) ∙ ap (λ (n : ℕ). entryWords * n) (sym counted)
 
-        words : length (entries rest) ≡ 2 * packet .parts
-        words = length-entries rest (count rest) 0 (count rest) ∙ ap (λ (n : ℕ). 2 * n) (sym counted)
+      pub parts-held : entryWords * packet .parts ≤ length table′
+      parts-held = omega (arith, words, simp length-append at (ap length filled))
 
-        pub parts-few : packet .parts ≤ 2048
-        parts-few = omega (arith, found .few, counted)
+      -- where the packet ends, and that its lines have room
+      pub goes-on : (offset < offset + consumed) × (offset + consumed ≤ length s) × (36 + 12 * packet .parts ≤ consumed)
+      goes-on = (omega (arith, found .some), omega (arith, found .inside, length-drop offset s), omega (arith, found .some, counted))
 
-        pub parts-held : 2 * packet .parts ≤ length table′
-        parts-held = omega (arith, words, simp length-append at (ap length filled))
+      same-lines : partLines table′ (packet .parts) ≡ partLines (entries rest) (packet .parts)
+      same-lines = parts-same table′ (entries rest) (packet .parts) (λ k below. ap (λ (t : List ℕ). getD t k 0) filled ∙ List·getD-append (entries rest) (drop (length (entries rest)) table) 0 k (omega (arith, words)))
 
-        pub goes-on : (offset < offset + consumed) × (offset + consumed ≤ length input)
-        goes-on = (omega (arith, found .some), omega (arith, found .inside, length-drop offset input))
+      pub packet-listed : {end : ℕ} {after : List ℕ} → at ≤ 5 * offset
+          → Wrote (packetLine offset (fieldsOf packet) ++ partLines table′ (packet .parts)) at before end after → end ≤ at + (128 + 47 * packet .parts)
+          → PacketLines s offset at before (offset + consumed) end after
+      packet-listed early wrote short =
+          record {
+            lines = packetLine offset (fieldsOf packet) ++ partLines (entries rest) (packet .parts);
+            are = lines-so (Read packet consumed) d;
+            wrote = wrote-as (ap (λ (l : List ℕ). packetLine offset (fieldsOf packet) ++ l) same-lines) wrote;
+            behind = goes-on .0;
+            inside = goes-on .1;
+            short = omega (arith, goes-on .2);
+          }
 
-        same-lines : partLines table′ (packet .parts) ≡ partLines (entries rest) (packet .parts)
-        same-lines = parts-same table′ (entries rest) (packet .parts) (λ k below. ap (λ (t : List ℕ). getD t k 0) filled ∙ List·getD-append (entries rest) (drop (length (entries rest)) table) 0 k (omega (arith, words)))
+-- The steps together: the lines written so far, and behind them those still to come, of at most `left` packets more
 
-        pub listed-read : {count : ℕ} {text′ : List ℕ} → Wrote (packetLine offset (fieldsOf packet) ++ partLines table′ (packet .parts)) 0 text count text′
-            → Lists input offset table text (Listed.Packet count (offset + consumed)) table′ text′
-        listed-read {count} wrote =
-            let front = wrote-front (wrote-as (ap (λ (l : List ℕ). packetLine offset (fieldsOf packet) ++ l) same-lines) wrote) in
-            listed (Read packet consumed) d (Listed.Packet count (offset + consumed)) (ap (λ (n : ℕ). accepted n ((offset + consumed) ∷ [])) (front .0)) (front .1)
+pub record Listing (s before now : List ℕ) (offset at : ℕ) : Type 0 where
+  pub left : ℕ
+  pub enough : length s ≤ offset + left
+  pub inside : offset ≤ length s
+  pub early : at ≤ 5 * offset
+  pub done : List ℕ
+  pub joins : done ++ linesFrom (suc left) s offset ≡ linesFrom (suc (length s)) s 0
+  pub wrote : Wrote done 0 before at now
+
+pub listing-begins : (s before : List ℕ) → Listing s before before 0 0
+unfolding placed
+listing-begins s before =
+    record { left = length s; enough = omega arith; inside = omega arith; early = omega arith; done = []; joins = refl; wrote = record { ends = refl; holds = refl } }
+
+pub listing-goes-on : {s before now after : List ℕ} {offset at next end : ℕ} → at ≤ length before → Listing s before now offset at → PacketLines s offset at now next end after → Listing s before after next end
+unfolding linesFrom
+listing-goes-on {s} {before} {now} {after} {offset} {at} {next} {end} room so p =
+    let one-less : so .left ≡ suc (so .left - 1) = omega (arith, so .enough, p .behind, p .inside) in
+    record {
+      left = so .left - 1;
+      enough = omega (arith, so .enough, p .behind, p .inside);
+      inside = p .inside;
+      early = p .short;
+      done = so .done ++ p .lines;
+      joins = append-assoc (so .done) (p .lines) (linesThen s next (linesFrom (so .left - 1) s)) ∙ ap (λ (l : List ℕ). so .done ++ (p .lines ++ l)) (ap (λ (k : ℕ). linesFrom k s next) (sym one-less)) ∙ ap (λ (l : List ℕ). so .done ++ l) (sym (p .are (linesFrom (so .left) s))) ∙ so .joins;
+      wrote = wrote-then room (so .wrote) (p .wrote);
+    }
+
+pub listing-ends : {s before now after : List ℕ} {offset at end : ℕ} → at ≤ length before → Listing s before now offset at → LastLine s offset at now end after
+    → Wrote (linesFrom (length s + 1) s 0) 0 before end after
+unfolding linesFrom
+listing-ends {s} {before} {now} {after} {offset} {at} {end} room so p =
+    let one-more : length s + 1 ≡ suc (length s) = omega arith in
+    wrote-as (ap (λ (l : List ℕ). so .done ++ l) (sym (p .are (linesFrom (so .left) s))) ∙ so .joins ∙ ap (λ (k : ℕ). linesFrom k s 0) (sym one-more)) (wrote-then room (so .wrote) (p .wrote))
+
+-- The whole output
+
+module _ (s before : List ℕ) where
+  pub output-short : length before < textRoom → Lists s before (Listed.Refused (record { room = Output; needed = textRoom; given = length before })) before
+  output-short short = let so = lt-ltb (length before) textRoom short in (rw so, rw so)
+
+  module _ (fits : textRoom ≤ length before) where
+    written : {text : List ℕ} {end : ℕ} {after : List ℕ} → output s ≡ text → Wrote text 0 before end after → Lists s before (Listed.Written end) after
+    written {text} {end} e wrote =
+        let front = wrote-front (wrote-as (sym e) wrote) in
+        let so = le-ltb (length before) textRoom fits in
+        (rw so (ap (λ (n : ℕ). accepted n []) (front .0)), rw so (front .1))
+
+    pub output-too-long : {end : ℕ} {after : List ℕ} → mostBytes < length s → Wrote (text "too long\n") 0 before end after → Lists s before (Listed.Written end) after
+    unfolding output
+    output-too-long long wrote = written (rw (lt-ltb mostBytes (length s) long)) wrote
+
+    pub output-lines : {end : ℕ} {after : List ℕ} → length s ≤ mostBytes → Wrote (linesFrom (length s + 1) s 0) 0 before end after → Lists s before (Listed.Written end) after
+    unfolding output
+    output-lines few wrote = written (rw (le-ltb mostBytes (length s) few)) wrote

@@ -1,4 +1,5 @@
 -- What the program `list` prints, after document 01, and what the crate's function promises.
 pub mod Text
-pub mod Walk
+pub mod Output
 pub mod Statement
+pub mod Stages

@@ -1,24 +1,15 @@
 -- The lines that `list` prints, from document 01: "Fields: offset, type, flags, id, parts (decimal but for the id); then
 -- `part I LENGTH` or `part I null` per part, I from 0. Last line: `end` (no bytes left), `more` or `refused`, with the offset where
 -- the next, unfinished or refused packet begins, and for `refused` the number." Assumes nothing.
-use Prim.Native.Nat.{ℕ, zero, suc, _+_, _*_, _/_, _%_}
+use Prim.Native.Nat.{ℕ, zero, suc, _+_, _*_}
 use mathlib.Core.List.{List, [], _∷_, _++_}
 use lib.ListN.{getD}
-use Rattle.words.specs.Decide.{pick, _<?_, _=?_}
+use Rattle.words.specs.Decide.{pick, _=?_}
+use Rattle.words.specs.Text.{text}
+use Rattle.numerals.specs.Statement.{decimal}
 use Rattle.guid.specs.Guid.{guidOf}
 use Rattle.guid.specs.Text.{textOf}
 use Rattle.packet.specs.Reading.{entryWords, nullLength}
-
--- a number of at most so many digits, highest first, without leading zeros; 0 is "0"
-unfoldable pub spelled : ℕ → ℕ → List ℕ
-spelled zero n = []
-spelled (suc most) n =
-    let more = spelled most (n / 10) ++ (48 + n % 10) ∷ [] in
-    pick (n <? 10) ((48 + n) ∷ []) more
-
--- a number of 64 bits has at most 20
-abbrev pub decimal : ℕ → List ℕ
-decimal n = spelled 20 n
 
 -- words with a space between, and the line's end
 abbrev pub line : List (List ℕ) → List ℕ
@@ -26,38 +17,19 @@ line [] = 10 ∷ []
 line (word ∷ []) = word ++ 10 ∷ []
 line (word ∷ next ∷ words) = word ++ 32 ∷ line (next ∷ words)
 
--- "packet", "part", "null", "end", "more", "refused"
-abbrev pub packet : List ℕ
-packet = 112 ∷ 97 ∷ 99 ∷ 107 ∷ 101 ∷ 116 ∷ []
-
-abbrev pub part : List ℕ
-part = 112 ∷ 97 ∷ 114 ∷ 116 ∷ []
-
-abbrev pub null : List ℕ
-null = 110 ∷ 117 ∷ 108 ∷ 108 ∷ []
-
-abbrev pub end : List ℕ
-end = 101 ∷ 110 ∷ 100 ∷ []
-
-abbrev pub more : List ℕ
-more = 109 ∷ 111 ∷ 114 ∷ 101 ∷ []
-
-abbrev pub refused : List ℕ
-refused = 114 ∷ 101 ∷ 102 ∷ 117 ∷ 115 ∷ 101 ∷ 100 ∷ []
-
 -- the id of a packet's fields: type, flags, the four words of the id, how many parts
 abbrev pub idOf : List ℕ → List ℕ
 idOf fields = textOf (guidOf (getD fields 2 0) (getD fields 3 0) (getD fields 4 0) (getD fields 5 0))
 
 unfoldable pub packetLine : ℕ → List ℕ → List ℕ
-packetLine offset fields = line (packet ∷ decimal offset ∷ decimal (getD fields 0 0) ∷ decimal (getD fields 1 0) ∷ idOf fields ∷ decimal (getD fields 6 0) ∷ [])
+packetLine offset fields = line (text "packet" ∷ decimal offset ∷ decimal (getD fields 0 0) ∷ decimal (getD fields 1 0) ∷ idOf fields ∷ decimal (getD fields 6 0) ∷ [])
 
 -- a part's length by its entry's second word
 abbrev pub lengthText : ℕ → List ℕ
-lengthText length = pick (length =? nullLength) null (decimal length)
+lengthText length = pick (length =? nullLength) (text "null") (decimal length)
 
 unfoldable pub partLine : ℕ → ℕ → List ℕ
-partLine index length = line (part ∷ decimal index ∷ lengthText length ∷ [])
+partLine index length = line (text "part" ∷ decimal index ∷ lengthText length ∷ [])
 
 -- the lines of the parts before part n, by the entries of a part table
 unfoldable pub partLines : List ℕ → ℕ → List ℕ
@@ -65,10 +37,10 @@ partLines entries zero = []
 partLines entries (suc n) = partLines entries n ++ partLine n (getD entries (entryWords * n + 1) 0)
 
 unfoldable pub endLine : ℕ → List ℕ
-endLine offset = line (end ∷ decimal offset ∷ [])
+endLine offset = line (text "end" ∷ decimal offset ∷ [])
 
 unfoldable pub moreLine : ℕ → List ℕ
-moreLine offset = line (more ∷ decimal offset ∷ [])
+moreLine offset = line (text "more" ∷ decimal offset ∷ [])
 
 unfoldable pub refusedLine : ℕ → ℕ → List ℕ
-refusedLine offset number = line (refused ∷ decimal offset ∷ decimal number ∷ [])
+refusedLine offset number = line (text "refused" ∷ decimal offset ∷ decimal number ∷ [])

@@ -19,7 +19,8 @@ same-length c = search needs
 
 returns : tie.Need-returns
 returns c = let first = c .before .before .before .before .before .before .packet-line .ensures in
-    wrote-then (omega (arith, first .1)) (first .0) (c .before .before .part-lines .ensures)
+    let second = c .before .before .part-lines .ensures in
+    (wrote-then (omega (arith, first .1)) (first .0) (second .0), omega (arith, first .1, second .1))
 
 pub packet-lines-spec : {M : Type 1} → statement M
 packet-lines-spec =

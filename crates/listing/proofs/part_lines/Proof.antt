@@ -5,7 +5,7 @@ use Prim.Native.Nat.{_+_, _*_, _-_, _≤_}
 use native.Mathlib.Omega.{arith}
 use lib.ListN.{length}
 use Rattle.listing.specs.Text.{partLines}
-use Rattle.listing.specs.Statement.{Wrote}
+use Rattle.listing.specs.Stages.{Wrote}
 use Rattle.listing.proofs.TextLaws.{no-parts, part-more, parts-all}
 use Rattle.listing.proofs.part_lines.Statement.{statement}
 use Rattle.listing.proofs.part_lines.Tie as tie
@@ -50,7 +50,7 @@ same-length : tie.Need-same-length Inv-loop μ-loop
 same-length c = c .before .loop .inv .1
 
 returns : tie.Need-returns Inv-loop μ-loop
-returns c = parts-all (c .before .before .before .before .args .parts .now) (c .before .loop .index) (c .before .before .before .before .args .count) (c .before .loop .inv .0) (c .loop-test .left) (c .before .loop .inv .3)
+returns c = (parts-all (c .before .before .before .before .args .parts .now) (c .before .loop .index) (c .before .before .before .before .args .count) (c .before .loop .inv .0) (c .loop-test .left) (c .before .loop .inv .3), omega arith)
 
 pub part-lines-spec : {M : Type 1} → statement M
 part-lines-spec =

@@ -25,7 +25,8 @@ returns c =
     let start = c .before .before .before .before .before .before .before .before .before .before .before .before .before .before in
     let word = c .before .before .before .before .before .before .before .before .before .before .put-bytes .ensures in
     let offset = c .before .before .before .before .before .before .put-field .ensures in
-    wrote-as (refused-text (start .args .offset) (start .args .number)) (wrote-then (omega (arith, word .ends, offset .1)) (wrote-then (omega (arith, word .ends)) word (offset .0)) (c .before .before .put-field2 .ensures .0))
+    wrote-as (refused-text (start .args .offset) (start .args .number))
+    (wrote-then (omega (arith, word .ends, offset .1)) (wrote-then (omega (arith, word .ends)) word (offset .0)) (c .before .before .put-field2 .ensures .0))
 
 pub refused-line-spec : {M : Type 1} → statement M
 refused-line-spec =

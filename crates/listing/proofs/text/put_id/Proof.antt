@@ -3,7 +3,8 @@ use mathlib.Core.Path.{ap}
 use Prim.Native.Nat.{ℕ, _+_}
 use native.Mathlib.Omega.{arith}
 use Rattle.guid.specs.Text.{textOf}
-use Rattle.listing.specs.Statement.{Wrote}
+use Rattle.listing.proofs.TextLaws.{printed-fits, fits-tail}
+use Rattle.listing.specs.Stages.{Wrote}
 use Rattle.listing.proofs.TextLaws.{wrote-tail, wrote-behind, id-short}
 use borrow.Author.Needs.{needs}
 use Rattle.listing.proofs.text.put_id.Statement.{statement}
@@ -42,7 +43,7 @@ returns c =
     let size = c .before .before .before .before .text-size .ensures in
     let short = id-short (start .args .id) in
     let first : Wrote (textOf (start .args .id)) (start .args .at) (start .args .out .now) _ _ =
-    record { ends = ap (λ (k : ℕ). start .args .at + k) size; holds = wrote-tail (textOf (start .args .id)) (start .args .out .now) (c .before .before .print .last .1 .0) (start .args .at) (omega arith) (c .before .before .print .ensures .1) } in
+    record { ends = ap (λ (k : ℕ). start .args .at + k) size; holds = wrote-tail (textOf (start .args .id)) (start .args .out .now) (c .before .before .print .last .1 .0) (start .args .at) (omega arith) (printed-fits (start .args .id) _ _ (fits-tail (textOf (start .args .id)) (start .args .out .now) (start .args .at) (omega arith)) (c .before .before .print .ensures .1)) } in
     (wrote-behind 32 (omega arith) first, omega (arith, size))
 
 pub put-id-spec : {M : Type 1} → statement M

@@ -1,0 +1,2 @@
+-- What reading whole promises.
+pub mod Statement
