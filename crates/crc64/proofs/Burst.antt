@@ -12,10 +12,10 @@ use lib.Pow.{pow-pos, shl-lt}
 use lib.Bits.{bitXor, xor-comm}
 use Rattle.words.specs.Word.{Bytes}
 use Rattle.crc64.specs.Polynomial.{steps, fold, checksum}
-use Rattle.crc64.specs.Damage.{Damaged, bigEndian}
+use Rattle.crc64.specs.Damage.{Damaged}
 use Rattle.crc64.proofs.Xor.{xor-cancel}
 use Rattle.crc64.proofs.Register.{steps-injective}
-use Rattle.crc64.proofs.Folding.{fold-append, fold-apart, fold-lt, fold-injective, tail-bytes, big-endian-lt, at-once-zero}
+use Rattle.crc64.proofs.Folding.{bigEndian, fold-append, fold-apart, fold-lt, fold-injective, tail-bytes, big-endian-lt, at-once-zero}
 
 -- ---- parts of a byte string
 

@@ -110,3 +110,11 @@ checksum-over-is bs known e hs = e ∙ ap (λ (t : List ℕ). swapped 8 (foldOve
 
 pub fold-over-is : {t : List ℕ} {z : ℕ} (r : ℕ) (bs : List ℕ) → t ≡ entries 8 → z ≡ foldOver t r bs → r < 2 ^ 64 → Bytes bs → z ≡ swapped 8 (fold (swapped 8 r) bs)
 fold-over-is r bs known e hr hs = e ∙ ap (λ (t : List ℕ). foldOver t r bs) known ∙ fold-over-held r bs hr hs
+
+-- the same for a caller that takes and gives the register as it is: swapped, folded, swapped back
+pub fold-is : {t : List ℕ} {x y z : ℕ} (r : ℕ) (bs : List ℕ)
+    → t ≡ entries 8 → x ≡ swapped 8 r → y ≡ foldOver t x bs → z ≡ swapped 8 y → r < 2 ^ 64 → Bytes bs → z ≡ fold r bs
+fold-is r bs known held e back hr hs =
+    back
+    ∙ ap (swapped 8) (e ∙ ap₂ (λ (t : List ℕ) (x : ℕ). foldOver t x bs) known held ∙ fold-over-true r bs hr hs)
+    ∙ swapped-twice 8 (fold r bs) (fold-lt r bs hr)

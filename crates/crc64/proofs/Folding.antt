@@ -10,8 +10,8 @@ use lib.Pow.{pow-add, pow-pos, shl-lt}
 use lib.Arith.{digits-lt}
 use lib.Bits.{bitXor, xor-zero-r, xor-comm, xor-shifted}
 use Rattle.words.specs.Word.{Bytes}
-use Rattle.crc64.specs.Polynomial.{step, steps, foldByte, fold, checksum}
-use Rattle.crc64.specs.Damage.{xorBytes, bigEndian}
+use Rattle.crc64.specs.Polynomial.{step, steps, foldByte, fold}
+use Rattle.crc64.specs.Damage.{xorBytes}
 use Rattle.crc64.proofs.Xor.{xor-assoc, xor-swap, xor-cancel, xor-shl}
 use Rattle.crc64.proofs.Register.{steps-xor, steps-add, step-lt, steps-lt, steps-shift, steps-injective}
 
@@ -37,9 +37,6 @@ fold-xor r s [] (y ∷ b) e = absurd (suc-ne-zero _ (sym e))
 fold-xor r s (x ∷ a) [] e = absurd (suc-ne-zero _ e)
 fold-xor r s (x ∷ a) (y ∷ b) e =
     ap (λ (z : ℕ). fold z (xorBytes a b)) (byte-xor r s x y) ∙ fold-xor (foldByte r x) (foldByte s y) a b (suc-inj e)
-
-pub checksum-xor : (a b : List ℕ) → length a ≡ length b → checksum (xorBytes a b) ≡ bitXor (checksum a) (checksum b)
-checksum-xor = fold-xor 0 0
 
 -- what a register brings along, and what the bytes do, apart
 byte-apart : (r b : ℕ) → foldByte r b ≡ bitXor (foldByte 0 b) (steps 8 r)
@@ -77,6 +74,11 @@ fold-injective bs {r} {s} hr hs e =
     steps-injective (8 * length bs) hr hs (xor-cancel (fold 0 bs) (sym (fold-apart r bs) ∙ e ∙ fold-apart s bs))
 
 -- ---- at most eight bytes at once: m is what they leave free of the register
+
+-- the number that bytes spell, the first of them highest
+unfoldable pub bigEndian : List ℕ → ℕ
+bigEndian [] = 0
+bigEndian (b ∷ bs) = b * 2 ^ (8 * length bs) + bigEndian bs
 
 pub tail-bytes : (b : ℕ) (bs : List ℕ) → Bytes (b ∷ bs) → Bytes bs
 tail-bytes b bs h i = h (suc i)

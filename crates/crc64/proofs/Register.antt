@@ -1,16 +1,35 @@
--- The step of the register: it is linear, leaves a register of 64 bits, and loses nothing. Assumes nothing.
-use mathlib.Core.Path.{_≡_, refl, sym, ap, ap₂, _∙_}
+-- The step of the register: it wants no test, is linear, leaves a register of 64 bits, and loses nothing. Assumes nothing.
+use mathlib.Core.Path.{_≡_, refl, sym, ap, ap₂, _∙_, subst}
 use Prim.Native.Nat.{ℕ, zero, suc, _+_, _*_, _/_, _%_, _^_, _<_}
 use native.Mathlib.Nat.{mod-lt, mul-mod-left, mod-eq-of-lt, div-eq-of-lt, div-lt-iff-lt-mul, mul-one, zero-mul, mul-assoc, pow-succ', suc-add, zero-add, le-mul-of-pos-right}
 use native.Mathlib.Omega.{arith}
 use lib.Dec.{lit<}
 use lib.Pow.{mod-mod-pow, pow-pos}
-use lib.Bits.{bitXor, xor-shr, xor-mod, xor-lt, xor-self, xor-zero-r}
-use Rattle.crc64.specs.Polynomial.{poly, step, steps}
+use lib.Bits.{bitXor, xor-shr, xor-mod, xor-lt, xor-self, xor-comm, xor-zero-r}
+use Rattle.words.specs.Decide.{pick, _=?_}
+use Rattle.crc64.specs.Polynomial.{poly, shifted, topBit, step, steps}
 use Rattle.crc64.proofs.Xor.{xor-swap, xor-zero-eq, xor-shl}
 
 no-bit : {t : ℕ} → suc (suc t) < 2 → ⊥
 no-bit h = omega arith
+
+top-lt : (r : ℕ) → topBit r < 2
+top-lt r = mod-lt (r / 2 ^ 63) (lit< tt)
+
+shifted-lt : (r : ℕ) → shifted r < 2 ^ 64
+shifted-lt r = mod-lt (r * 2) (lit< tt)
+
+-- ---- without a test
+
+choice : (t x : ℕ) → t < 2 → pick (t =? 1) (bitXor x poly) x ≡ bitXor (t * poly) x
+choice zero x h = refl
+choice (suc zero) x h = xor-comm x poly
+choice (suc (suc t)) x h = absurd (no-bit h)
+
+-- the polynomial times the bit that left is xored in, whichever it was: the form in which the step is linear at sight
+pub branch-free : (r : ℕ) → step r ≡ bitXor (topBit r * poly) (shifted r)
+unfolding step
+branch-free r = choice (topBit r) (shifted r) (top-lt r)
 
 -- ---- linear
 
@@ -22,16 +41,20 @@ bit-times p (suc zero) (suc zero) hx hy = zero-mul p ∙ sym (xor-self (1 * p))
 bit-times p (suc zero) (suc (suc y)) hx hy = absurd (no-bit hy)
 bit-times p (suc (suc x)) y hx hy = absurd (no-bit hx)
 
-top-bit : (a b : ℕ) → bitXor a b / 2 ^ 63 % 2 ≡ bitXor (a / 2 ^ 63 % 2) (b / 2 ^ 63 % 2)
+top-bit : (a b : ℕ) → topBit (bitXor a b) ≡ bitXor (topBit a) (topBit b)
 top-bit a b = ap (λ (x : ℕ). x % 2) (xor-shr a b 63) ∙ xor-mod (a / 2 ^ 63) (b / 2 ^ 63) 1
 
+shifted-xor : (a b : ℕ) → shifted (bitXor a b) ≡ bitXor (shifted a) (shifted b)
+shifted-xor a b = ap (λ (x : ℕ). x % 2 ^ 64) (xor-shl 1 a b) ∙ xor-mod (a * 2) (b * 2) 64
+
 pub step-xor : (a b : ℕ) → step (bitXor a b) ≡ bitXor (step a) (step b)
-unfolding step
 step-xor a b =
-    ap₂ bitXor
-    (ap (λ (x : ℕ). x * poly) (top-bit a b) ∙ bit-times poly (a / 2 ^ 63 % 2) (b / 2 ^ 63 % 2) (mod-lt (a / 2 ^ 63) (lit< tt)) (mod-lt (b / 2 ^ 63) (lit< tt)))
-    (ap (λ (x : ℕ). x % 2 ^ 64) (xor-shl 1 a b) ∙ xor-mod (a * 2) (b * 2) 64)
-    ∙ xor-swap (a / 2 ^ 63 % 2 * poly) (b / 2 ^ 63 % 2 * poly) (a * 2 % 2 ^ 64) (b * 2 % 2 ^ 64)
+    branch-free (bitXor a b)
+    ∙ ap₂ bitXor
+    (ap (λ (x : ℕ). x * poly) (top-bit a b) ∙ bit-times poly (topBit a) (topBit b) (top-lt a) (top-lt b))
+    (shifted-xor a b)
+    ∙ xor-swap (topBit a * poly) (topBit b * poly) (shifted a) (shifted b)
+    ∙ sym (ap₂ bitXor (branch-free a) (branch-free b))
 
 pub steps-xor : (k a b : ℕ) → steps k (bitXor a b) ≡ bitXor (steps k a) (steps k b)
 unfolding steps
@@ -51,8 +74,9 @@ times-lt (suc zero) h = lit< tt
 times-lt (suc (suc t)) h = absurd (no-bit h)
 
 pub step-lt : (r : ℕ) → step r < 2 ^ 64
-unfolding step
-step-lt r = xor-lt 64 (r / 2 ^ 63 % 2 * poly) (r * 2 % 2 ^ 64) (times-lt (r / 2 ^ 63 % 2) (mod-lt (r / 2 ^ 63) (lit< tt))) (mod-lt (r * 2) (lit< tt))
+step-lt r =
+    subst (λ (x : ℕ). x < 2 ^ 64) (sym (branch-free r))
+    (xor-lt 64 (topBit r * poly) (shifted r) (times-lt (topBit r) (top-lt r)) (shifted-lt r))
 
 pub steps-lt : (k r : ℕ) → r < 2 ^ 64 → steps k r < 2 ^ 64
 unfolding steps
@@ -67,7 +91,7 @@ double-lt r h = omega arith
 step-small : (r : ℕ) → r < 2 ^ 63 → step r ≡ r * 2
 unfolding step
 step-small r h =
-    ap₂ (λ (x y : ℕ). bitXor (x % 2 * poly) y) (div-eq-of-lt h) (mod-eq-of-lt (double-lt r h))
+    ap₂ (λ (x y : ℕ). pick ((x % 2) =? 1) (bitXor y poly) y) (div-eq-of-lt h) (mod-eq-of-lt (double-lt r h))
 
 pub steps-shift : (k r : ℕ) → r * 2 ^ k < 2 ^ 64 → steps k r ≡ r * 2 ^ k
 unfolding steps
@@ -83,7 +107,7 @@ steps-shift (suc k) r h =
 double-zero : (r : ℕ) → 0 ≡ r * 2 → r ≡ 0
 double-zero r e = omega arith
 
-zero-by-top : (r t : ℕ) → r < 2 ^ 64 → t < 2 → r / 2 ^ 63 % 2 ≡ t → t * poly ≡ r * 2 % 2 ^ 64 → r ≡ 0
+zero-by-top : (r t : ℕ) → r < 2 ^ 64 → t < 2 → topBit r ≡ t → t * poly ≡ shifted r → r ≡ 0
 zero-by-top r zero h ht top e =
     let below : r / 2 ^ 63 < 2 = div-lt-iff-lt-mul {k = 2 ^ 63} (lit< tt) .1 h in
     let small : r < 2 ^ 63 = div-lt-iff-lt-mul {k = 2 ^ 63} {y = 1} (lit< tt) .0 (omega (arith, mod-eq-of-lt below)) in
@@ -94,8 +118,7 @@ zero-by-top r (suc zero) h ht top e =
 zero-by-top r (suc (suc t)) h ht top e = absurd (no-bit ht)
 
 step-zero : (r : ℕ) → r < 2 ^ 64 → step r ≡ 0 → r ≡ 0
-unfolding step
-step-zero r h e = zero-by-top r (r / 2 ^ 63 % 2) h (mod-lt (r / 2 ^ 63) (lit< tt)) refl (xor-zero-eq e)
+step-zero r h e = zero-by-top r (topBit r) h (top-lt r) refl (xor-zero-eq (sym (branch-free r) ∙ e))
 
 pub step-injective : {a b : ℕ} → a < 2 ^ 64 → b < 2 ^ 64 → step a ≡ step b → a ≡ b
 step-injective {a} {b} ha hb e =

@@ -1,6 +1,5 @@
--- What the laws of the checksum speak of: damage to a byte string, two strings joined byte by byte, the number that bytes spell.
--- Assumes nothing.
-use Prim.Native.Nat.{ℕ, _+_, _*_, _^_}
+-- What the laws of the checksum speak of: damage to a byte string, and two strings joined byte by byte. Assumes nothing.
+use Prim.Native.Nat.{ℕ, _+_}
 use mathlib.Core.Path.{_≡_}
 use mathlib.Core.List.{List, [], _∷_}
 use lib.Bits.{bitXor}
@@ -18,8 +17,3 @@ unfoldable pub xorBytes : List ℕ → List ℕ → List ℕ
 xorBytes [] b = []
 xorBytes (x ∷ a) [] = []
 xorBytes (x ∷ a) (y ∷ b) = bitXor x y ∷ xorBytes a b
-
--- the number that bytes spell, the first of them highest
-unfoldable pub bigEndian : List ℕ → ℕ
-bigEndian [] = 0
-bigEndian (b ∷ bs) = b * 2 ^ (8 * length bs) + bigEndian bs

@@ -4,13 +4,22 @@
 use Prim.Native.Nat.{ℕ, zero, suc, _*_, _/_, _%_, _^_}
 use mathlib.Core.List.{List, [], _∷_}
 use lib.Bits.{bitXor}
+use Rattle.words.specs.Decide.{pick, _=?_}
 
 abbrev pub poly : ℕ
 poly = 0xe543_2797_6592_7881
 
--- one bit: the register is shifted by one, and the polynomial is xored in where the bit that left at the top was set
+-- the register shifted by one place: the bit at the top leaves
+abbrev pub shifted : ℕ → ℕ
+shifted r = r * 2 % 2 ^ 64
+
+-- that bit
+abbrev pub topBit : ℕ → ℕ
+topBit r = r / 2 ^ 63 % 2
+
+-- one bit: shift, test the bit that left at the top, and xor the polynomial in where it was set
 unfoldable pub step : ℕ → ℕ
-step r = bitXor (r / 2 ^ 63 % 2 * poly) (r * 2 % 2 ^ 64)
+step r = pick (topBit r =? 1) (bitXor (shifted r) poly) (shifted r)
 
 unfoldable pub steps : ℕ → ℕ → ℕ
 steps zero r = r

@@ -13,6 +13,10 @@ TableIs r = r ≡ entries 8
 abbrev pub FoldOverIs : List ℕ → ℕ → List ℕ → ℕ → Type 0
 FoldOverIs table register bytes r = r ≡ foldOver table register bytes
 
+-- the polynomial's own register after the bytes
+abbrev pub FoldIs : ℕ → List ℕ → ℕ → Type 0
+FoldIs register bytes r = r ≡ fold register bytes
+
 -- the bytes of a number turned round
 abbrev pub SwapIs : ℕ → ℕ → Type 0
 SwapIs x r = r ≡ swapped 8 x

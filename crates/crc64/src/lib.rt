@@ -1,6 +1,6 @@
 // The checksum of the bus: a CRC-64 of its own, worked a byte at a time over a table. The register is held byte-swapped, so
 // that the loop takes the lowest byte, and `finish` swaps it back. What a checksum is stands in specs/Polynomial.antt.
-ghost use Rattle.crc64.specs.Statement.{TableIs, SwapIs, FoldOverIs, ChecksumOverIs, ChecksumIs, NewIs, UpdateIs, ChainIs, FinishIs};
+ghost use Rattle.crc64.specs.Statement.{TableIs, SwapIs, FoldOverIs, FoldIs, ChecksumOverIs, ChecksumIs, NewIs, UpdateIs, ChainIs, FinishIs};
 ghost use Rattle.crc64.specs.Polynomial.{fold};
 ghost use Rattle.crc64.specs.Table.{swapped};
 ghost use mathlib.Core.Path.{_≡_};
@@ -304,6 +304,14 @@ pub fn swap_bytes(x: u64) -> u64
                 + ((x3 % 256) * 0x1_0000_0000
                     + ((x4 % 256) * 0x100_0000
                         + ((x5 % 256) * 0x1_0000 + ((x6 % 256) * 0x100 + x7 % 256))))))
+}
+
+// The plain engine by value: the register after the bytes, both of them the polynomial's own, not byte-swapped.
+pub fn fold(register: u64, bytes: &[u8]) -> u64
+    ensures { λ r. ⌜ FoldIs register (now (bytes .entry)) r ⌝ }
+{
+    let table = table();
+    swap_bytes(fold_over(&table, swap_bytes(register), bytes))
 }
 
 // For a caller that holds the table over several checksums. Over the true table it is the checksum.

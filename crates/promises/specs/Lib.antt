@@ -1,5 +1,6 @@
 -- What is guaranteed, by name.
 pub mod Acceptance
+pub mod Checksum
 pub mod Damage
 pub mod RoundTrip
 pub mod Rowsets

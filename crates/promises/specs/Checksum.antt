@@ -1,0 +1,29 @@
+-- What is guaranteed of the checksum, each promise said of the functions through their own statements. Assumes nothing.
+use Prim.Native.Nat.{ℕ}
+use mathlib.Core.Path.{_≡_}
+use mathlib.Core.List.{List, _++_}
+use lib.Bits.{bitXor}
+use lib.ListN.{length, replicate}
+use Rattle.crc64.specs.declared.Crc64.{Crc64}
+use Rattle.crc64.specs.Damage.{xorBytes}
+use Rattle.crc64.specs.Statement.{ChecksumIs, NewIs, UpdateIs, FinishIs}
+
+-- document 01: "An empty or all-zero part has checksum 0": whatever `checksum` answers for zeros, of any number, is 0
+abbrev pub ChecksumOfZeros : Type 0
+ChecksumOfZeros = (count r : ℕ) → ChecksumIs (replicate count 0) r → r ≡ 0
+
+-- document 01: "folding a then b equals folding a joined to b": two updates leave what one of the stretches joined leaves
+abbrev pub UpdatesJoin : Type 0
+UpdatesJoin =
+    (before between after : Crc64) (a b : List ℕ) → UpdateIs before a between → UpdateIs between b after → UpdateIs before (a ++ b) after
+
+-- `new`, `update` and `finish` answer what `checksum` answers
+abbrev pub UpdateIsChecksum : Type 0
+UpdateIsChecksum =
+    (first last : Crc64) (bytes : List ℕ) (r : ℕ) → NewIs first → UpdateIs first bytes last → FinishIs last r → ChecksumIs bytes r
+
+-- document 02, A8: "for equal lengths the checksum of the byte-wise exclusive or is the exclusive or of the checksums"
+abbrev pub ChecksumXor : Type 0
+ChecksumXor =
+    (a b : List ℕ) (sumA sumB sum : ℕ)
+    → length a ≡ length b → ChecksumIs a sumA → ChecksumIs b sumB → ChecksumIs (xorBytes a b) sum → sum ≡ bitXor sumA sumB
