@@ -3,5 +3,6 @@ pub mod Acceptance
 pub mod Damage
 pub mod RoundTrip
 pub mod Rowsets
+pub mod Guids
 pub mod Examples
 pub mod TablesKeep
