@@ -3,18 +3,19 @@ use mathlib.Core.Path.{_≡_, refl, sym, _∙_, ap}
 use mathlib.Core.Bool.{true, false}
 use mathlib.Core.List.{List, [], _∷_, _++_, append-nil}
 use mathlib.Core.Logic.{_⊎_, inl, inr, ⊎-elim}
-use Prim.Native.Nat.{ℕ, zero, suc, _+_, _<_, _≤_}
+use Prim.Native.Nat.{ℕ, zero, suc, _+_, _^_, _<_, _≤_}
 use native.Mathlib.Omega.{arith}
 use lib.ListN.{length, getD, drop, length-drop, length-append, drop-of-length-le}
 use Rattle.words.specs.Answer.{accepted, refuse}
 use Rattle.guid.specs.declared.Guid.{Guid}
 use Rattle.guid.specs.declared.Parsed.the-variants.{Read}
-use Rattle.guid.specs.Guid.{wordsOf}
+use Rattle.guid.specs.Guid.{Fitting, wordsOf}
 use Rattle.guid.specs.Text.{Field, word, stopped, ends, some, field, walk, reading}
 use Rattle.guid.specs.Paper.{parsedPaper}
 use Rattle.guid.specs.Digits.{Digits, value}
-use Rattle.guid.specs.Form.{IsField, IsText, ParsesExactly}
+use Rattle.guid.specs.Form.{IsField, IsText}
 use Rattle.numerals.proofs.Cases.{lt-or-le, same-or-other}
+use Rattle.guid.proofs.ValueLaws.{value-fits}
 use Rattle.guid.proofs.FieldLaws.{ends-past, ends-dash, some-past, field-past, field-plus, field-plain, walk-stopped, walk-short, walk-on, walk-long, walk-end}
 use Rattle.guid.proofs.Plain.{Ended, at-the-end, at-a-dash, Run, some-told, read-or-stopped, not-accepted, dash-behind, word-not-stopped, step}
 use Rattle.guid.proofs.RoundTrip.{in-text, byte-at, behind-at, at-end, behind-run, some-read, field-read}
@@ -148,34 +149,45 @@ walk-last s i w f words e is =
     let past : length s ≤ end = at-end s end (behind-run s i f [] whole) in
     walk-end s i w end words (field-form s i w f [] whole is (ends-past s end past)) past
 
-pub parses-exactly : ParsesExactly
-parses-exactly s g = (forth, back)
-  where
-    forth : reading s ≡ parsedPaper (Read g) → IsText s g
-    forth e =
-        let a : Next 2 s 0 [] (wordsOf g) = next-told 2 s 0 [] (wordsOf g) e in
-        let b : Next 1 s (a .next) (a .w ∷ []) (wordsOf g) = next-told 1 s (a .next) (a .w ∷ []) (wordsOf g) (a .rest) in
-        let c : Next 0 s (b .next) (b .w ∷ a .w ∷ []) (wordsOf g) = next-told 0 s (b .next) (b .w ∷ a .w ∷ []) (wordsOf g) (b .rest) in
-        let d : Last s (c .next) (c .w ∷ b .w ∷ a .w ∷ []) (wordsOf g) = last-told s (c .next) (c .w ∷ b .w ∷ a .w ∷ []) (wordsOf g) (c .rest) in
-        let e3 : a .w ≡ g .w3 = let o = d .order in cc in
-        let e2 : b .w ≡ g .w2 = let o = d .order in cc in
-        let e1 : c .w ≡ g .w1 = let o = d .order in cc in
-        let e0 : d .w ≡ g .w0 = let o = d .order in cc in
-        record {
-          f3 = a .bytes;
-          f2 = b .bytes;
-          f1 = c .bytes;
-          f0 = d .bytes;
-          joined = a .stand ∙ ap (λ (l : List ℕ). a .bytes ++ 45 ∷ l) (b .stand ∙ ap (λ (l : List ℕ). b .bytes ++ 45 ∷ l) (c .stand ∙ ap (λ (l : List ℕ). c .bytes ++ 45 ∷ l) (d .stand)));
-          is3 = rw e3 at (a .is);
-          is2 = rw e2 at (b .is);
-          is1 = rw e1 at (c .is);
-          is0 = rw e0 at (d .is);
-        }
+-- what is read is of the form
+pub read-text : (s : List ℕ) (g : Guid) → reading s ≡ parsedPaper (Read g) → IsText s g
+read-text s g e =
+    let a : Next 2 s 0 [] (wordsOf g) = next-told 2 s 0 [] (wordsOf g) e in
+    let b : Next 1 s (a .next) (a .w ∷ []) (wordsOf g) = next-told 1 s (a .next) (a .w ∷ []) (wordsOf g) (a .rest) in
+    let c : Next 0 s (b .next) (b .w ∷ a .w ∷ []) (wordsOf g) = next-told 0 s (b .next) (b .w ∷ a .w ∷ []) (wordsOf g) (b .rest) in
+    let d : Last s (c .next) (c .w ∷ b .w ∷ a .w ∷ []) (wordsOf g) = last-told s (c .next) (c .w ∷ b .w ∷ a .w ∷ []) (wordsOf g) (c .rest) in
+    let e3 : a .w ≡ g .w3 = let o = d .order in cc in
+    let e2 : b .w ≡ g .w2 = let o = d .order in cc in
+    let e1 : c .w ≡ g .w1 = let o = d .order in cc in
+    let e0 : d .w ≡ g .w0 = let o = d .order in cc in
+    record {
+      f3 = a .bytes;
+      f2 = b .bytes;
+      f1 = c .bytes;
+      f0 = d .bytes;
+      joined = a .stand ∙ ap (λ (l : List ℕ). a .bytes ++ 45 ∷ l) (b .stand ∙ ap (λ (l : List ℕ). b .bytes ++ 45 ∷ l) (c .stand ∙ ap (λ (l : List ℕ). c .bytes ++ 45 ∷ l) (d .stand)));
+      is3 = rw e3 at (a .is);
+      is2 = rw e2 at (b .is);
+      is1 = rw e1 at (c .is);
+      is0 = rw e0 at (d .is);
+    }
 
-    back : IsText s g → reading s ≡ parsedPaper (Read g)
-    back t =
-        let a = walk-field s 0 (g .w3) (t .f3) (t .f2 ++ 45 ∷ (t .f1 ++ 45 ∷ t .f0)) 2 [] (t .joined) (t .is3) in
-        let b = walk-field s (0 + length (t .f3) + 1) (g .w2) (t .f2) (t .f1 ++ 45 ∷ t .f0) 1 (g .w3 ∷ []) (a .1) (t .is2) in
-        let c = walk-field s (0 + length (t .f3) + 1 + length (t .f2) + 1) (g .w1) (t .f1) (t .f0) 0 (g .w2 ∷ g .w3 ∷ []) (b .1) (t .is1) in
-        a .0 ∙ b .0 ∙ c .0 ∙ walk-last s (0 + length (t .f3) + 1 + length (t .f2) + 1 + length (t .f1) + 1) (g .w0) (t .f0) (g .w1 ∷ g .w2 ∷ g .w3 ∷ []) (c .1) (t .is0)
+-- and what is of the form is read
+pub text-read : (s : List ℕ) (g : Guid) → IsText s g → reading s ≡ parsedPaper (Read g)
+text-read s g t =
+    let a = walk-field s 0 (g .w3) (t .f3) (t .f2 ++ 45 ∷ (t .f1 ++ 45 ∷ t .f0)) 2 [] (t .joined) (t .is3) in
+    let b = walk-field s (0 + length (t .f3) + 1) (g .w2) (t .f2) (t .f1 ++ 45 ∷ t .f0) 1 (g .w3 ∷ []) (a .1) (t .is2) in
+    let c = walk-field s (0 + length (t .f3) + 1 + length (t .f2) + 1) (g .w1) (t .f1) (t .f0) 0 (g .w2 ∷ g .w3 ∷ []) (b .1) (t .is1) in
+    a .0 ∙ b .0 ∙ c .0 ∙ walk-last s (0 + length (t .f3) + 1 + length (t .f2) + 1 + length (t .f1) + 1) (g .w0) (t .f0) (g .w1 ∷ g .w2 ∷ g .w3 ∷ []) (c .1) (t .is0)
+
+-- each word of a text fits its 32 bits
+field-fits : (f : List ℕ) (w : ℕ) → IsField f w → w < 2 ^ 32
+field-fits f w is = rw (is .spells) (value-fits (is .digits) (is .hex) (digits-short (is .form)))
+  where
+    digits-short : (f ≡ is .digits) ⊎ (f ≡ 43 ∷ is .digits) → length (is .digits) ≤ 8
+    digits-short (inl same) = omega (arith, is .short, ap length same)
+    digits-short (inr same) = omega (arith, is .short, ap length same)
+
+pub text-fits : (s : List ℕ) (g : Guid) → IsText s g → Fitting g
+text-fits s g t =
+    record { fits0 = field-fits _ _ (t .is0); fits1 = field-fits _ _ (t .is1); fits2 = field-fits _ _ (t .is2); fits3 = field-fits _ _ (t .is3) }

@@ -1,5 +1,4 @@
--- Two texts that read as the same GUID differ only in case, leading zeros and pluses: any text that reads as a GUID is, in its
--- plain form, the text that the GUID prints. Assumes nothing.
+-- Any text that reads as a GUID is, in its plain form, the text that the GUID prints. Assumes nothing.
 use mathlib.Core.Path.{_≡_, refl, sym, _∙_, ap}
 use mathlib.Core.Bool.{true, false}
 use mathlib.Core.List.{List, [], _∷_, _++_, map, append-nil, reverse, reverseAux, reverse-reverse}
@@ -223,7 +222,3 @@ plain-text s g e =
     let told = walk-told 3 s 0 [] (wordsOf g) e in
     let read : told .read ≡ g .w3 ∷ g .w2 ∷ g .w1 ∷ g .w0 ∷ [] = sym (reverse-reverse (told .read)) ∙ ap reverse (sym (told .order)) in
     ap between (told .plain ∙ ap (map hex) read) ∙ sym (text-nested g)
-
--- So two texts that read as one GUID differ only in case, leading zeros and pluses.
-pub same-guid : (s t : List ℕ) (g : Guid) → reading s ≡ parsedPaper (Read g) → reading t ≡ parsedPaper (Read g) → normal s ≡ normal t
-same-guid s t g p q = plain-text s g p ∙ sym (plain-text t g q)

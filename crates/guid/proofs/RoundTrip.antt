@@ -1,23 +1,27 @@
--- Reading what was printed gives the GUID back, and printing that gives the text back. Assumes nothing.
+-- Reading what was printed gives the GUID back. Assumes nothing.
 use mathlib.Core.Path.{_≡_, sym, _∙_, ap}
 use mathlib.Core.Bool.{true}
 use mathlib.Core.List.{List, [], _∷_, _++_, append-nil}
 use Prim.Native.Nat.{ℕ, suc, _+_, _-_, _*_, _^_, _<_, _≤_}
 use native.Mathlib.Nat.{add-zero}
 use native.Mathlib.Omega.{arith}
-use lib.ListN.{length, getD, drop, length-drop}
-use lib.Seq.{getD-drop, drop-drop}
-use Rattle.words.specs.Answer.{accepted}
-use Rattle.words.specs.Word.{Bytes}
+use lib.ListN.{length, getD, take, drop, length-drop}
+use lib.Seq.{getD-drop, drop-drop, take-at}
+use Rattle.words.specs.Answer.{Answer, accepted, afterwards}
+use Rattle.words.specs.Buffer.{over}
+use Rattle.words.specs.Decide.{_<?_}
+use Rattle.words.proofs.AnswerLaws.{refused-not-accepted}
+use Rattle.words.proofs.DecideLaws.{pick-case}
 use Rattle.guid.specs.declared.Guid.{Guid}
+use Rattle.guid.specs.declared.Printed.the-variants.{Written}
 use Rattle.guid.specs.declared.Parsed.the-variants.{Read}
-use Rattle.guid.specs.Guid.{Fitting, guidAt}
+use Rattle.guid.specs.Guid.{Fitting}
 use Rattle.words.specs.Text.{digitOf}
 use Rattle.numerals.specs.Statement.{hex}
 use Rattle.guid.specs.Text.{textOf, word, ends, digits, some, field, walk, reading}
 use Rattle.guid.specs.Paper.{parsedPaper}
+use Rattle.guid.specs.Statement.{Prints}
 use Rattle.guid.proofs.Unique.{parsed-told}
-use Rattle.guid.proofs.WireLaws.{read-fits}
 use Rattle.guid.proofs.FieldLaws.{ends-past, ends-dash, digits-end, digits-more, some-more, field-plain, walk-on, walk-end}
 use Rattle.numerals.proofs.SpelledLaws.{length-spelled-most, length-spelled-least}
 use Rattle.guid.proofs.TextLaws.{text-nested}
@@ -102,6 +106,13 @@ module _ (s : List ℕ) (i w : ℕ) (fits : w < 2 ^ 32) where
       let past : length s ≤ end = at-end s end (behind-run s i (hex w) [] whole) in
       walk-end s i w end words (word-read [] whole (ends-past s end past)) past
 
+-- what `print` wrote is the text
+pub printed-text : (g : Guid) (before : List ℕ) (n : ℕ) (after : List ℕ) → Prints g before (Written n) after → take n after ≡ textOf g
+printed-text g before n after told =
+    let wrote : after ≡ over (textOf g) before = told .1 ∙ ap (λ (a : Answer). afterwards a (textOf g) before) (sym (told .0)) in
+    let count : length (textOf g) ≡ n = pick-case (length before <? length (textOf g)) _ _ (λ (a : Answer). accepted n [] ≡ a → length (textOf g) ≡ n) (λ _ e. absurd (refused-not-accepted _ _ _ n [] (sym e))) (λ _ e. cc) (told .0) in
+    ap (take n) wrote ∙ take-at (textOf g) (drop (length (textOf g)) before) n count
+
 -- Reading what was printed gives the GUID back.
 pub parse-printed : (g : Guid) → Fitting g → reading (textOf g) ≡ parsedPaper (Read g)
 parse-printed g fits =
@@ -112,19 +123,8 @@ parse-printed g fits =
     one .0 ∙ two .0 ∙ three .0
     ∙ walk-last s (0 + length (hex (g .w3)) + 1 + length (hex (g .w2)) + 1 + length (hex (g .w1)) + 1) (g .w0) (fits .fits0) (g .w1 ∷ g .w2 ∷ g .w3 ∷ []) (three .1)
 
--- So it is with every id that was read out of bytes, that of a packet among them.
-pub read-print-parse : (s : List ℕ) (at : ℕ) → Bytes s → reading (textOf (guidAt s at)) ≡ parsedPaper (Read (guidAt s at))
-read-print-parse s at bytes = parse-printed (guidAt s at) (read-fits s at bytes)
-
 -- So the text tells the GUID.
 pub print-injective : (g h : Guid) → Fitting g → Fitting h → textOf g ≡ textOf h → g ≡ h
 print-injective g h fits fits′ same =
     let told : Read g ≡ Read h = parsed-told (Read g) (Read h) (sym (parse-printed g fits) ∙ ap reading same ∙ parse-printed h fits′) in
     cc
-
--- Printing, reading and printing is the same text.
-pub print-parse-print : (g h : Guid) → Fitting g → reading (textOf g) ≡ parsedPaper (Read h) → textOf h ≡ textOf g
-print-parse-print g h fits read =
-    let told : Read h ≡ Read g = parsed-told (Read h) (Read g) (sym read ∙ parse-printed g fits) in
-    let same : h ≡ g = cc in
-    ap textOf same

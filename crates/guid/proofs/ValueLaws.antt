@@ -3,7 +3,7 @@ use mathlib.Core.Path.{_≡_, refl, sym, _∙_, ap}
 use mathlib.Core.List.{List, [], _∷_, _++_, map, append-nil, append-assoc}
 use mathlib.Core.Logic.{⊎-elim}
 use Prim.Native.Nat.{ℕ, zero, suc, _+_, _-_, _*_, _/_, _%_, _^_, _<_, _≤_}
-use native.Mathlib.Nat.{pow-succ', add-zero, eq-or-lt-of-le}
+use native.Mathlib.Nat.{pow-succ', pow-le-pow-right, mul-le-mul-right, add-zero, eq-or-lt-of-le}
 use native.Mathlib.Omega.{arith}
 use borrow.Author.Tests.{lt-ltb, le-ltb, ne-eqb}
 use lib.Dec.{ltb}
@@ -112,6 +112,19 @@ value-append : (n : ℕ) (ds : List ℕ) (b : ℕ) → value n (ds ++ b ∷ []) 
 unfolding value
 value-append n [] b = refl
 value-append n (d ∷ ds) b = value-append (n * 16 + digitOf d) ds b
+
+-- at most eight digits spell a word
+value-below : (n : ℕ) (ds : List ℕ) → Digits ds → value n ds < (n + 1) * 16 ^ length ds
+unfolding value
+value-below n [] good = omega arith
+value-below n (b ∷ ds) good =
+    let most : n * 16 + digitOf b + 1 ≤ (n + 1) * 16 = omega (arith, good .0) in
+    let more : (n * 16 + digitOf b + 1) * 16 ^ length ds ≤ (n + 1) * 16 * 16 ^ length ds = mul-le-mul-right (16 ^ length ds) most in
+    rw (pow-succ' 16 (length ds)) (omega (arith, value-below (n * 16 + digitOf b) ds (good .1), more))
+
+pub value-fits : (ds : List ℕ) → Digits ds → length ds ≤ 8 → value 0 ds < 2 ^ 32
+value-fits ds good short =
+    omega (arith, value-below 0 ds good, pow-le-pow-right {n = 16} (omega arith) {i = length ds} {j = 8} short)
 
 -- a spelling is made of digits and spells its number
 pub digits-spelled : (k n : ℕ) → Digits (spelled 16 k n)

@@ -6,9 +6,6 @@ use mathlib.Core.Logic.{_⊎_}
 use mathlib.Core.Path.{_≡_}
 use lib.ListN.{length}
 use Rattle.guid.specs.declared.Guid.{Guid}
-use Rattle.guid.specs.declared.Parsed.the-variants.{Read}
-use Rattle.guid.specs.Text.{reading}
-use Rattle.guid.specs.Paper.{parsedPaper}
 use Rattle.guid.specs.Digits.{Digits, value}
 
 -- a field of this word: at least one hex digit, one plus before them or none, eight bytes at most
@@ -31,6 +28,3 @@ pub record IsText (s : List ℕ) (g : Guid) : Type 0 where
   pub is2 : IsField f2 (g .w2)
   pub is1 : IsField f1 (g .w1)
   pub is0 : IsField f0 (g .w0)
-
-abbrev pub ParsesExactly : Type 0
-ParsesExactly = (s : List ℕ) (g : Guid) → (reading s ≡ parsedPaper (Read g) → IsText s g) × (IsText s g → reading s ≡ parsedPaper (Read g))

@@ -9,6 +9,7 @@ pub mod RoundTrip
 pub mod Prefix
 pub mod Encoded
 pub mod Rowsets
+pub mod Guids
 pub mod Examples
 pub mod TablesKeep
 pub mod OneResult

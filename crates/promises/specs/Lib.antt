@@ -4,5 +4,6 @@ pub mod Checksum
 pub mod Damage
 pub mod RoundTrip
 pub mod Rowsets
+pub mod Guids
 pub mod Examples
 pub mod TablesKeep
