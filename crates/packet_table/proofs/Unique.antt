@@ -52,8 +52,10 @@ contains-unique flags other = equal-to-one _
 pub is-null-unique : (offset size : ℕ) → OneResult (TellsNull offset size)
 is-null-unique offset size = equal-to-one _
 
-pub part-unique : (input table : List ℕ) (i : ℕ) → OneResult (LendsPart input table i)
-part-unique input table i = equal-to-one _
+-- the stretch and its place
+pub part-unique : (input table : List ℕ) (i : ℕ) (from : ℕ × ℕ) → OneResult (λ (x : List ℕ × (ℕ × ℕ)). LendsPart input table i from (x .0) (x .1))
+part-unique input table i from x x′ p q =
+    λ j. ((p .bytes ∙ sym (q .bytes)) j, ((p .block ∙ sym (q .block)) j, (p .offset ∙ sym (q .offset)) j))
 
 pub part-checksum-unique : (input table : List ℕ) (i : ℕ) → OneResult (PartChecksumIs input table i)
 part-checksum-unique input table i = equal-to-one _

@@ -53,5 +53,12 @@ module _ (area table : List ℕ) (i : ℕ) where
 
   -- "Asked for part i, the library lends back exactly that stretch of the input; a null part, or an i or entry outside the table
   -- or input, gives the empty stretch at the front."
-  unfoldable pub lentAt : List ℕ
-  lentAt = pick (i <? room table && not (nullAt table i) && not outsideAt) stretchAt []
+  unfoldable pub isLent : Bool
+  isLent = i <? room table && not (nullAt table i) && not outsideAt
+
+  abbrev pub lentAt : List ℕ
+  lentAt = pick isLent stretchAt []
+
+  -- where that stretch begins in the input
+  abbrev pub lentFrom : ℕ
+  lentFrom = pick isLent (offsetAt table i) 0

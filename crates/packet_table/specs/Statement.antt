@@ -1,5 +1,5 @@
 -- What each public function promises, by name. A lent area or table is read, and left as it was. Assumes nothing.
-use Prim.Native.Nat.{ℕ}
+use Prim.Native.Nat.{ℕ, _+_}
 use mathlib.Core.Bool.{Bool}
 use mathlib.Core.List.{List}
 use mathlib.Core.Path.{_≡_}
@@ -11,7 +11,7 @@ use Rattle.packet.specs.declared.PacketFlags.{PacketFlags}
 use Rattle.packet.specs.Paper.{typeNumber}
 use Rattle.packet_table.specs.declared.Validated.{Validated}
 use Rattle.packet_table.specs.declared.Measured.{Measured}
-use Rattle.packet_table.specs.Entries.{isNull, lentAt}
+use Rattle.packet_table.specs.Entries.{isNull, lentAt, lentFrom}
 use Rattle.packet_table.specs.Checks.{validating, sizing}
 use Rattle.packet_table.specs.Paper.{paperValidated, paperMeasured}
 
@@ -28,9 +28,11 @@ Validates area table r = paperValidated r ≡ validating area table
 abbrev pub Measures : PacketType → List ℕ → List ℕ → Measured → Type 0
 Measures type area table r = paperMeasured r ≡ sizing area table (typeNumber type)
 
--- r is part i's stretch of the input
-abbrev pub LendsPart : List ℕ → List ℕ → ℕ → List ℕ → Type 0
-LendsPart input table i r = r ≡ lentAt input table i
+-- r is part i's stretch of the input, and lies in the input: an input that lies at `from`, a block and an offset in it, lends it at `at`
+pub record LendsPart (input table : List ℕ) (i : ℕ) (from : ℕ × ℕ) (r : List ℕ) (at : ℕ × ℕ) : Type 0 where
+  pub bytes : r ≡ lentAt input table i
+  pub block : at .0 ≡ from .0
+  pub offset : at .1 ≡ from .1 + lentFrom input table i
 
 abbrev pub PartChecksumIs : List ℕ → List ℕ → ℕ → ℕ → Type 0
 PartChecksumIs input table i r = r ≡ checksum (lentAt input table i)

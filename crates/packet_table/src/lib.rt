@@ -63,9 +63,9 @@ fn is_outside(given: u64, offset: u64, length: u64) -> bool
     given - offset < length
 }
 
-// Part `index` of the input, by the table's entry; the empty stretch where there is none.
+// Part `index` of the input, by the table's entry; the empty stretch at the front where there is none.
 pub fn part<'a>(input: &'a [u8], parts: &[u64], index: usize) -> &'a [u8]
-    ensures { λ r. ⌜ LendsPart (now (input .entry)) (now (parts .entry)) index (now r) ⌝ }
+    ensures { λ r. ⌜ LendsPart (now (input .entry)) (now (parts .entry)) index ((input .entry) .ptr) (now r) (r .ptr) ⌝ }
 {
     if parts.len() / ENTRY_WORDS <= index {
         return &input[..0];

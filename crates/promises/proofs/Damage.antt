@@ -9,7 +9,7 @@ use native.Mathlib.Nat.{zero-add}
 use native.Mathlib.Omega.{arith}
 use borrow.Author.Tests.{lt-ltb, ne-eqb}
 use lib.ListN.{length, take, drop}
-use Rattle.words.specs.Word.{word, Bytes}
+use Rattle.words.specs.Word.{word}
 use Rattle.words.specs.Answer.{Answer, accepted, refuse, NotTaken}
 use Rattle.words.specs.Buffer.{stretch}
 use Rattle.words.specs.Decide.{pick, _=?_, _≠?_, _<?_, decide}
@@ -21,7 +21,7 @@ use Rattle.packet.specs.Paper.{paper, fieldsOf}
 use Rattle.promises.proofs.TablesKeep.{packet-tables-keep}
 use Rattle.packet.specs.Reading.{room, fails, isNull, tooLarge, partFails, firstTooLarge, firstFailing, order, reading}
 use Rattle.packet.proofs.SizeLaws.{taken-below}
-use Rattle.promises.specs.Damage.{Stretch, fixedHeader, variableHeader, partAt, Names, DamageIsNamed, DecodeNamesDamage}
+use Rattle.promises.specs.Damage.{Stretch, fixedHeader, variableHeader, partAt, from, long, Names, Confined, ConfinedIsNamed, DamageIsNamed}
 use Rattle.promises.proofs.Agreement.{same-word, same-stretch, other-checksum}
 use Rattle.promises.proofs.Acceptance.{guards, present, none-of, not-null}
 use Rattle.promises.proofs.Lines.{Before, Behind, lines-before, lines-behind, pass-before}
@@ -33,12 +33,16 @@ broken word a b kept passed other =
     (λ (same : word ≡ checksum a). rw (ne-eqb word 0 kept, ne-eqb word (checksum b) (λ e. other (sym same ∙ e))))
     (guards word a passed)
 
-module _ (s t : List ℕ) (limit ceiling room : ℕ) {at run : ℕ} (bytes-s : Bytes s) (bytes-t : Bytes t) (few : run ≤ 8) (damaged : Damaged at run s t) where
+module _ (s t : List ℕ) (limit ceiling room : ℕ) {at run : ℕ} (damaged : Damaged at run s t) where
+  -- a stretch that holds the run has another checksum
+  abbrev Changed : ℕ → ℕ → Type 0
+  Changed from long = checksum (stretch s from long) ≡ checksum (stretch t from long) → ⊥
+
   module _ (before : Before s (count s) ceiling) where
     -- bytes 0 to 27
-    fixed-named : (fixedSum s ≡ 0 → ⊥) → at + run ≤ 28 → Names t fixedHeader (reading t limit ceiling room)
+    fixed-named : (fixedSum s ≡ 0 → ⊥) → at + run ≤ 28 → Changed 0 28 → Names t fixedHeader (reading t limit ceiling room)
     unfolding reading order
-    fixed-named kept high = by-signature (signature t ≠? packetSignature) refl
+    fixed-named kept high changed = by-signature (signature t ≠? packetSignature) refl
       where
         long-enough : (length t <? 36) ≡ false
         long-enough = rw (← damaged .same-length) (before .there)
@@ -47,7 +51,7 @@ module _ (s t : List ℕ) (limit ceiling room : ℕ) {at run : ℕ} (bytes-s : B
         word-is = same-word damaged 8 28 (inr high)
 
         failed : fails (fixedSum t) (take 28 t) ≡ true
-        failed = rw (← word-is) (broken (fixedSum s) (take 28 s) (take 28 t) kept (before .guarded) (other-checksum damaged 0 28 (omega arith) (omega arith) few bytes-s bytes-t))
+        failed = rw (← word-is) (broken (fixedSum s) (take 28 s) (take 28 t) kept (before .guarded) changed)
 
         by-type : (b : Bool) → (signature t ≠? packetSignature) ≡ false → (2 <? type t) ≡ b → Names t fixedHeader (decide (order t (count t) limit ceiling room) (accepted (whole t (count t)) (fields t)))
         by-type true e₁ e₂ = rw (long-enough, e₁, e₂)
@@ -96,15 +100,15 @@ module _ (s t : List ℕ) (limit ceiling room : ℕ) {at run : ℕ} (bytes-s : B
         length-too m e = rw (← damaged .same-length) e
 
         -- bytes 36 to 36 + 12n
-        variable-named : (variableSum s n ≡ 0 → ⊥) → at + run ≤ 36 + 12 * n → Names t variableHeader (reading t limit ceiling room)
+        variable-named : (variableSum s n ≡ 0 → ⊥) → at + run ≤ 36 + 12 * n → Changed 36 (12 * n) → Names t variableHeader (reading t limit ceiling room)
         unfolding order
-        variable-named kept high = rw (← same-count) (answer-is ∙ rw (behind .short, length-too (headers n) (behind .headers-there), failed))
+        variable-named kept high changed = rw (← same-count) (answer-is ∙ rw (behind .short, length-too (headers n) (behind .headers-there), failed))
           where
             word-is : variableSum s n ≡ variableSum t n
             word-is = same-word damaged 8 (36 + 12 * n) (inr high)
 
             failed : fails (variableSum t n) (variable t n) ≡ true
-            failed = rw (← word-is) (broken (variableSum s n) (variable s n) (variable t n) kept (behind .guarded) (other-checksum damaged 36 (12 * n) behind-fixed high few bytes-s bytes-t))
+            failed = rw (← word-is) (broken (variableSum s n) (variable s n) (variable t n) kept (behind .guarded) changed)
 
         -- where it lies behind the variable header, that is read as before too
         module _ (behind-headers : headers n ≤ at) where
@@ -123,7 +127,7 @@ module _ (s t : List ℕ) (limit ceiling room : ℕ) {at run : ℕ} (bytes-s : B
           same-large = first-same (tooLarge s) (tooLarge t) 0 n (λ k low high. ap (λ (w : ℕ). not (w =? nullSize) && largestPart <? w) (same-size k (omega (arith, zero-add n))))
 
           module _ (i : ℕ) (below : i < n) (some : size s i ≡ nullSize → ⊥) (kept : partSum s n i ≡ 0 → ⊥)
-              (low : start s n i ≤ at) (high : at + run ≤ start s n i + taken s i) where
+              (low : start s n i ≤ at) (changed : Changed (start s n i) (taken s i)) where
             -- part k is looked for where it stood
             part-there : (k : ℕ) → k < n → part t n k ≡ stretch t (start s n k) (taken s k)
             part-there k h =
@@ -155,7 +159,7 @@ module _ (s t : List ℕ) (limit ceiling room : ℕ) {at run : ℕ} (bytes-s : B
                 ∙ ap (λ (b : Bool). not b && fails (partSum s n i) (stretch t (start s n i) (taken s i))) (ne-eqb (size s i) nullSize some)
                 ∙ broken (partSum s n i) (part s n i) (stretch t (start s n i) (taken s i)) kept
                 (present (isNull s i) (fails (partSum s n i) (part s n i)) (not-null s n i some) (none i below))
-                (other-checksum damaged (start s n i) (taken s i) low high few bytes-s bytes-t)
+                changed
 
             first-is : firstFailing t n ≡ i
             first-is = first-at (partFails t n) n i below earlier failed
@@ -188,42 +192,42 @@ module _ (s t : List ℕ) (limit ceiling room : ℕ) {at run : ℕ} (bytes-s : B
 counted-header : (s : List ℕ) (i : ℕ) → i < count s → hasVariableHeader (type s) (count s) ≡ true
 counted-header s i h = rw (lt-ltb 0 (count s) (omega arith)) (or-true (type s =? 0))
 
--- Demand 3: damage is named. An accepted packet, damaged only inside one run of at most eight bytes of one checksummed stretch
--- whose stored word is not 0, is refused by that stretch's checksum (or by 1 or 2, where its signature or type is none any more):
--- an altered term does not pass for another term.
-pub damage-is-named : DamageIsNamed
+reading-names : (s t : List ℕ) (limit ceiling entries n : ℕ) (f : List ℕ) (part : Stretch) (at run : ℕ)
+    → reading s limit ceiling entries ≡ accepted n f → Confined s t part at run → Names t part (reading t limit ceiling entries)
 unfolding reading
-damage-is-named s t limit ceiling room n f fixedHeader at run e hit =
-    fixed-named s t limit ceiling room (hit .bytes-before) (hit .bytes-after) (hit .few) (hit .damaged)
-    (lines-before s (count s) limit ceiling room _ (accepted n f) refl e .0)
-    (hit .guarded)
-    (rw (zero-add 28) at (hit .ends))
-damage-is-named s t limit ceiling room n f variableHeader at run e hit =
-    variable-named s t limit ceiling room (hit .bytes-before) (hit .bytes-after) (hit .few) (hit .damaged)
-    (lines-before s (count s) limit ceiling room _ (accepted n f) refl e .0)
-    (hit .starts)
-    (hit .has)
-    (lines-behind s (count s) limit ceiling room _ (accepted n f) refl e (hit .has) .0)
-    (hit .guarded)
-    (hit .ends)
-damage-is-named s t limit ceiling room n f (partAt i) at run e hit =
-    let low : start s (count s) i ≤ at = hit .starts in
-    let there : hasVariableHeader (type s) (count s) ≡ true = counted-header s i (hit .has .0) in
-    part-named s t limit ceiling room (hit .bytes-before) (hit .bytes-after) (hit .few) (hit .damaged)
-    (lines-before s (count s) limit ceiling room _ (accepted n f) refl e .0)
+reading-names s t limit ceiling entries n f fixedHeader at run e c =
+    fixed-named s t limit ceiling entries (c .inside .damaged)
+    (lines-before s (count s) limit ceiling entries _ (accepted n f) refl e .0)
+    (c .guarded)
+    (rw (zero-add 28) at (c .inside .ends))
+    (c .changed)
+reading-names s t limit ceiling entries n f variableHeader at run e c =
+    variable-named s t limit ceiling entries (c .inside .damaged)
+    (lines-before s (count s) limit ceiling entries _ (accepted n f) refl e .0)
+    (c .inside .starts)
+    (c .inside .has)
+    (lines-behind s (count s) limit ceiling entries _ (accepted n f) refl e (c .inside .has) .0)
+    (c .guarded)
+    (c .inside .ends)
+    (c .changed)
+reading-names s t limit ceiling entries n f (partAt i) at run e c =
+    let low : start s (count s) i ≤ at = c .inside .starts in
+    let there : hasVariableHeader (type s) (count s) ≡ true = counted-header s i (c .inside .has .0) in
+    part-named s t limit ceiling entries (c .inside .damaged)
+    (lines-before s (count s) limit ceiling entries _ (accepted n f) refl e .0)
     (omega arith)
     there
-    (lines-behind s (count s) limit ceiling room _ (accepted n f) refl e there .0)
+    (lines-behind s (count s) limit ceiling entries _ (accepted n f) refl e there .0)
     (omega arith)
     i
-    (hit .has .0)
-    (hit .has .1)
-    (hit .guarded)
+    (c .inside .has .0)
+    (c .inside .has .1)
+    (c .guarded)
     low
-    (hit .ends)
+    (c .changed)
 
 -- an answer that names a stretch is no acceptance
-not-taken : (t : List ℕ) (stretch : Stretch) (a : Answer) → Names t stretch a → NotTaken a
+pub not-taken : (t : List ℕ) (part : Stretch) (a : Answer) → Names t part a → NotTaken a
 not-taken t fixedHeader a named = rw named (by-tests (signature t ≠? packetSignature) (2 <? type t))
   where
     by-tests : (unsigned unknown : Bool)
@@ -234,10 +238,22 @@ not-taken t fixedHeader a named = rw named (by-tests (signature t ≠? packetSig
 not-taken t variableHeader a named = rw named tt
 not-taken t (partAt i) a named = rw named tt
 
--- Demand 3 of the function `decode_with`: damage is named, and the lent table is left as it was.
-pub decode-names-damage : DecodeNamesDamage
-decode-names-damage s t limit ceiling table packet consumed filled r after stretch at run taken hit told =
-    let named : Names t stretch (paper r) =
-    rw (told .answer)
-    (damage-is-named s t limit ceiling (room table) consumed (fieldsOf packet) stretch at run (sym (taken .answer)) hit) in
-    (named, packet-tables-keep t limit ceiling table r after told .0 (not-taken t stretch (paper r) named))
+-- Damage that is confined to one checksummed stretch whose stored word is not 0, and that changed its checksum, is named, and the
+-- lent table is left as it was.
+pub confined-is-named : ConfinedIsNamed
+confined-is-named s t limit ceiling table lent packet consumed filled r after part at run taken hit same told =
+    let accepts : reading s limit ceiling (room lent) ≡ accepted consumed (fieldsOf packet) = ap (reading s limit ceiling) (sym same) ∙ sym (taken .answer) in
+    let named : Names t part (paper r) = rw (told .answer) (reading-names s t limit ceiling (room lent) consumed (fieldsOf packet) part at run accepts hit) in
+    (named, packet-tables-keep t limit ceiling lent r after told .0 (not-taken t part (paper r) named))
+
+-- Demand 3: damage is named. An accepted packet, damaged only inside one run of at most eight bytes of one checksummed stretch
+-- whose stored word is not 0, is refused by that stretch's checksum (or by 1 or 2, where its signature or type is none any more):
+-- an altered term does not pass for another term.
+pub damage-is-named : DamageIsNamed
+damage-is-named s t limit ceiling table lent packet consumed filled r after part at run taken hit =
+    confined-is-named s t limit ceiling table lent packet consumed filled r after part at run taken
+    (record {
+      guarded = hit .guarded;
+      inside = hit .inside;
+      changed = other-checksum (hit .inside .damaged) (from s part) (long s part) (hit .inside .starts) (hit .inside .ends) (hit .few) (hit .bytes-before) (hit .bytes-after);
+    })

@@ -7,7 +7,9 @@ pub mod Written
 pub mod RoundTrip
 pub mod Prefix
 pub mod Encoded
+pub mod Parts
 pub mod Rowsets
 pub mod Examples
 pub mod TablesKeep
 pub mod OneResult
+pub mod Refuted

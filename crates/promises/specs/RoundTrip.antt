@@ -13,10 +13,7 @@ use Rattle.packet.specs.declared.PacketType.{PacketType}
 use Rattle.packet.specs.declared.PacketFlags.{PacketFlags}
 use Rattle.packet.specs.Paper.{typeNumber}
 use Rattle.packet_table.specs.Wire.{Part, null, bytes, content, packetBytes, packetSize, partsOf}
-use Rattle.packet_write.specs.declared.Encoded.the-variants.{Written}
-use Rattle.packet_write.specs.Statement.{Encodes}
 use Rattle.guid.specs.declared.Guid.{Guid}
-use Rattle.guid.specs.Guid.{Fitting}
 
 -- a packet's fields and parts
 pub record Message : Type 0 where
@@ -71,18 +68,7 @@ StrictPrefix =
     (m : Message) (limit ceiling room k : ℕ) → Valid m → Held m limit ceiling room → k < wireSize m
     → reading (take k (wire m)) limit ceiling room ≡ more
 
--- The same from what the writer says: where `encode` has answered, by its statement `Encodes`, that it wrote so many bytes, those
--- bytes with any tail are read back as the packet that was given.
+-- what `encode` is given, as such a packet
 abbrev pub given : PacketType → PacketFlags → Guid → List ℕ → List ℕ → Message
 given type flags id area table =
     record { type = typeNumber type; flags = flags .0; w0 = id .w0; w1 = id .w1; w2 = id .w2; w3 = id .w3; parts = partsOf area table }
-
-abbrev pub EncodeThenDecode : Type 0
-EncodeThenDecode =
-    (type : PacketType) (flags : PacketFlags) (id : Guid) (area table out : List ℕ) (n : ℕ) (after tail : List ℕ) (limit ceiling room : ℕ)
-    → flags .0 < 2 ^ 16 → Fitting id
-    → Encodes type flags id area table out (Written n) after
-    → Held (given type flags id area table) limit ceiling room
-    → (reading (take n after ++ tail) limit ceiling room
-    ≡ accepted n (typeNumber type ∷ flags .0 ∷ id .w0 ∷ id .w1 ∷ id .w2 ∷ id .w3 ∷ length (partsOf area table) ∷ []))
-    × ((i : ℕ) → i < length (partsOf area table) → ReadsPart (take n after ++ tail) (length (partsOf area table)) i (getD (partsOf area table) i null))

@@ -1,11 +1,11 @@
 -- `part` meets its contract: the index is past the table, the entry null, outside, or lent. Assumes nothing.
-use mathlib.Core.Path.{_≡_, sym, _∙_, ap}
+use mathlib.Core.Path.{_≡_, refl, sym, _∙_, ap}
 use mathlib.Core.List.{List}
 use Prim.Native.Nat.{ℕ, _+_, _-_, _≤_}
 use native.Mathlib.Omega.{arith}
 use lib.ListN.{length, take, drop}
 use Rattle.packet_table.specs.Entries.{offsetAt, sizeAt}
-use Rattle.packet_table.proofs.EntryLaws.{lent-past, lent-null, lent-outside, lent-inside, inside}
+use Rattle.packet_table.proofs.EntryLaws.{inside, none-past, none-null, none-outside, some-inside, lent-none, lent-some, from-none, from-some}
 use borrow.Author.Needs.{needs}
 use Rattle.packet_table.proofs.part.Statement.{statement}
 use Rattle.packet_table.proofs.part.Tie as tie
@@ -14,7 +14,9 @@ slice-aggregate-result : tie.Need-slice-aggregate-result
 slice-aggregate-result c = search needs
 
 returns : tie.Need-returns
-returns c = lent-past _ _ _ (c .before .if1 .taken)
+returns c =
+    let none = none-past _ _ _ (c .before .if1 .taken) in
+    record { bytes = lent-none _ _ _ none; block = refl; offset = from-none _ _ _ _ none }
 
 mul-offset : tie.Need-mul-offset
 mul-offset c = search needs
@@ -44,7 +46,9 @@ slice-aggregate-result-2 : tie.Need-slice-aggregate-result-2
 slice-aggregate-result-2 c = search needs
 
 returns-2 : tie.Need-returns-2
-returns-2 c = let at = c .before .before .before .before .before in lent-null _ _ _ (at .if1 .left) (sym (c .before .before .is-null .ensures) ∙ c .before .if2 .taken)
+returns-2 c =
+    let none = none-null _ _ _ (sym (c .before .before .is-null .ensures) ∙ c .before .if2 .taken) in
+    record { bytes = lent-none _ _ _ none; block = refl; offset = from-none _ _ _ _ none }
 
 is-outside-requires : tie.Need-is-outside-requires
 is-outside-requires c κs = search needs
@@ -54,8 +58,8 @@ slice-aggregate-result-3 c = search needs
 
 returns-3 : tie.Need-returns-3
 returns-3 c =
-    let null = c .before .before .before .before in
-    lent-outside _ _ _ (null .before .before .before .if1 .left) (sym (null .is-null .ensures) ∙ c .before .before .before .if2 .left) (sym (c .before .before .is-outside .ensures) ∙ c .before .if3 .taken)
+    let none = none-outside _ _ _ (sym (c .before .before .is-outside .ensures) ∙ c .before .if3 .taken) in
+    record { bytes = lent-none _ _ _ none; block = refl; offset = from-none _ _ _ _ none }
 
 -- past the tests, the entry lies in the input
 within : (c : tie.Else3)
@@ -86,8 +90,14 @@ returns-4 c =
     let size : ℕ = sizeAt table (start .index) in
     let null = c .before .before .before .before in
     let whole : offset + size - offset ≡ size = omega arith in
-    ap (λ (n : ℕ). take n (drop offset input)) whole
-    ∙ lent-inside input table (start .index) (null .before .before .before .if1 .left) (sym (null .is-null .ensures) ∙ c .before .before .before .if2 .left) (sym (c .before .before .is-outside .ensures) ∙ c .before .if3 .left)
+    let present = sym (null .is-null .ensures) ∙ c .before .before .before .if2 .left in
+    let inner = sym (c .before .before .is-outside .ensures) ∙ c .before .if3 .left in
+    let some = some-inside input table (start .index) (null .before .before .before .if1 .left) present inner in
+    record {
+      bytes = ap (λ (n : ℕ). take n (drop offset input)) whole ∙ lent-some input table (start .index) some;
+      block = refl;
+      offset = from-some input table (start .index) (start .input .ptr .1) some;
+    }
 
 pub part-spec : {M : Type 1} → statement M
 part-spec =

@@ -52,7 +52,7 @@ later c =
     contents (partsFrom (c .before .before .before .before .before .before .args .area .now) (c .before .before .before .before .before .before .args .parts .now) next (room (c .before .before .before .before .before .before .args .parts .now) - next))
 
 is-part : (c : tie.After-part Inv-loop μ-loop) → c .part .result .now ≡ here c
-is-part c = c .part .ensures ∙ lent-content (c .before .before .before .before .before .before .args .area .now) (c .before .before .before .before .before .before .args .parts .now) (c .before .before .before .before .before .before .pre .0) (c .before .before .loop .index) (search needs)
+is-part c = c .part .ensures .bytes ∙ lent-content (c .before .before .before .before .before .before .args .area .now) (c .before .before .before .before .before .before .args .parts .now) (c .before .before .before .before .before .before .pre .0) (c .before .before .loop .index) (search needs)
 
 at-part : (c : tie.After-part Inv-loop μ-loop)
     → Filling (contents (partsOf (c .before .before .before .before .before .before .args .area .now) (c .before .before .before .before .before .before .args .parts .now))) (here c ++ later c) (c .before .before .before .before .before .before .args .out .now) (c .before .before .loop .out) (c .before .before .loop .at)
