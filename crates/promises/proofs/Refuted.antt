@@ -75,9 +75,190 @@ nine = 0x01 ∷ 0xe5 ∷ 0x43 ∷ 0x27 ∷ 0x97 ∷ 0x65 ∷ 0x92 ∷ 0x78 ∷ 0
 abbrev ack : ℕ → ℕ → ℕ → ℕ → Packet
 ack a b c d = record { «packet_type» = Ack; flags = record { 0 = 0 }; id = record { w0 = a; w1 = b; w2 = c; w3 = d }; parts = 0 }
 
+-- an Ack, that Ack with one byte of its id altered, and with nine
 abbrev sent : List ℕ
 sent = sealed (header packetSignature 1 zeros 0)
+
+abbrev altered : List ℕ
+altered = header packetSignature 1 one 0 ++ bytesOf 8 (checksum (header packetSignature 1 zeros 0))
+
+abbrev alteredInNine : List ℕ
+alteredInNine = header packetSignature 1 nine 0 ++ bytesOf 8 (checksum (header packetSignature 1 zeros 0))
+
+-- with a stored word of 0, whole and altered
+abbrev unguarded : List ℕ
+unguarded = header packetSignature 1 zeros 0 ++ bytesOf 8 0
+
+abbrev unguardedAltered : List ℕ
+unguardedAltered = header packetSignature 1 one 0 ++ bytesOf 8 0
+
+-- with another signature
+abbrev unsigned : List ℕ
+unsigned = header 0 1 zeros 0 ++ bytesOf 8 (checksum (header packetSignature 1 zeros 0))
 
 sent-read : Decodes sent 0 0 [] (Read (ack 0 0 0 0) 36) []
 unfolding sealed Word.bytesOf Word.word Decide.firstFrom Polynomial.step Polynomial.steps Polynomial.foldByte Polynomial.fold Layout.takenBefore Reading.order Reading.reading Reading.entriesFrom
 sent-read = record { answer = refl; tables = refl }
+
+nine-read : Decodes alteredInNine 0 0 [] (Read (ack 0x2743_e501 0x7892_6597 0x81 0) 36) []
+unfolding sealed Word.bytesOf Word.word Decide.firstFrom Polynomial.step Polynomial.steps Polynomial.foldByte Polynomial.fold Layout.takenBefore Reading.order Reading.reading Reading.entriesFrom
+nine-read = record { answer = refl; tables = refl }
+
+unguarded-read : Decodes unguarded 0 0 [] (Read (ack 0 0 0 0) 36) []
+unfolding sealed Word.bytesOf Word.word Decide.firstFrom Polynomial.step Polynomial.steps Polynomial.foldByte Polynomial.fold Layout.takenBefore Reading.order Reading.reading Reading.entriesFrom
+unguarded-read = record { answer = refl; tables = refl }
+
+unguarded-altered-read : Decodes unguardedAltered 0 0 [] (Read (ack 1 0 0 0) 36) []
+unfolding sealed Word.bytesOf Word.word Decide.firstFrom Polynomial.step Polynomial.steps Polynomial.foldByte Polynomial.fold Layout.takenBefore Reading.order Reading.reading Reading.entriesFrom
+unguarded-altered-read = record { answer = refl; tables = refl }
+
+unsigned-refused : Decodes unsigned 0 0 [] (Refused (Signature 0) 0) []
+unfolding sealed Word.bytesOf Word.word Decide.firstFrom Polynomial.step Polynomial.steps Polynomial.foldByte Polynomial.fold Layout.takenBefore Reading.order Reading.reading Reading.entriesFrom
+unsigned-refused = record { answer = refl; tables = refl }
+
+-- two strings that differ at one place differ
+other : (s t : List ℕ) (i a b : ℕ) → getD s i 0 ≡ a → getD t i 0 ≡ b → a < b → s ≡ t → ⊥
+other s t i a b p q less e = let same : a ≡ b = sym p ∙ ap (λ (l : List ℕ). getD l i 0) e ∙ q in omega arith
+
+one-byte : Damaged 8 1 sent altered
+unfolding sealed Word.bytesOf
+one-byte = record { same-length = refl; same-front = refl; same-rest = refl; differ = other sent altered 8 0 1 refl refl (omega arith) }
+
+-- Demand 3's premises can be met: an Ack whose id is altered in one byte.
+pub damage-happens : DamageHappens
+unfolding sealed Word.bytesOf Word.word Polynomial.step Polynomial.steps Polynomial.foldByte Polynomial.fold
+damage-happens =
+    record {
+      sent = sent;
+      received = altered;
+      packet = ack 0 0 0 0;
+      read = sent-read;
+      hit =
+          record {
+            bytes-before = small sent refl;
+            bytes-after = small altered refl;
+            few = omega arith;
+            guarded = λ e. omega arith;
+            inside = record { has = tt; starts = omega arith; ends = omega arith; damaged = one-byte };
+          };
+    }
+
+-- damage after which the packet is still read is not named
+unnamed : (Altered : List ℕ → List ℕ → Stretch → ℕ → ℕ → Type 0) (s t : List ℕ) (p q : Packet) (part : Stretch) (at run : ℕ)
+    → Decodes s 0 0 [] (Read p 36) [] → Decodes t 0 0 [] (Read q 36) [] → Altered s t part at run → NamedWhere Altered → ⊥
+unnamed Altered s t p q part at run whole damaged hit wrong =
+    not-taken t part (paper (Read q 36)) (wrong s t 0 0 [] [] p 36 [] (Read q 36) [] part at run whole hit refl damaged .0)
+
+pub nine-bytes-are-not-named : NineBytesAreNamed → ⊥
+unfolding sealed Word.bytesOf Word.word Polynomial.step Polynomial.steps Polynomial.foldByte Polynomial.fold
+nine-bytes-are-not-named =
+    unnamed HitOfNine sent alteredInNine (ack 0 0 0 0) (ack 0x2743_e501 0x7892_6597 0x81 0) fixedHeader 8 9 sent-read nine-read
+    (record {
+      bytes-before = small sent refl;
+      bytes-after = small alteredInNine refl;
+      few = omega arith;
+      guarded = λ e. omega arith;
+      inside =
+          record {
+            has = tt;
+            starts = omega arith;
+            ends = omega arith;
+            damaged = record { same-length = refl; same-front = refl; same-rest = refl; differ = other sent alteredInNine 8 0 1 refl refl (omega arith) };
+          };
+    })
+
+pub unguarded-is-not-named : UnguardedIsNamed → ⊥
+unfolding Word.bytesOf
+unguarded-is-not-named =
+    unnamed HitUnguarded unguarded unguardedAltered (ack 0 0 0 0) (ack 1 0 0 0) fixedHeader 8 1 unguarded-read unguarded-altered-read
+    (record {
+      bytes-before = small unguarded refl;
+      bytes-after = small unguardedAltered refl;
+      few = omega arith;
+      inside =
+          record {
+            has = tt;
+            starts = omega arith;
+            ends = omega arith;
+            damaged = record { same-length = refl; same-front = refl; same-rest = refl; differ = other unguarded unguardedAltered 8 0 1 refl refl (omega arith) };
+          };
+    })
+
+-- the stored word itself, made 0
+pub past-is-not-named : PastIsNamed → ⊥
+unfolding sealed Word.bytesOf Word.word Polynomial.step Polynomial.steps Polynomial.foldByte Polynomial.fold
+past-is-not-named =
+    unnamed HitPast sent unguarded (ack 0 0 0 0) (ack 0 0 0 0) fixedHeader 28 8 sent-read unguarded-read
+    (record {
+      bytes-before = small sent refl;
+      bytes-after = small unguarded refl;
+      few = omega arith;
+      guarded = λ e. omega arith;
+      has = tt;
+      starts = omega arith;
+      ends = omega arith;
+      damaged = record { same-length = refl; same-front = refl; same-rest = refl; differ = λ e. other unguarded sent 28 0 (getD sent 28 0) refl refl (omega arith) (sym e) };
+    })
+
+pub not-always-by-5 : AlwaysBy5 → ⊥
+unfolding sealed Word.bytesOf Word.word Polynomial.step Polynomial.steps Polynomial.foldByte Polynomial.fold
+not-always-by-5 wrong =
+    let named = wrong sent unsigned 0 0 [] (ack 0 0 0 0) 36 [] (Refused (Signature 0) 0) [] 0 4 sent-read (record {
+      bytes-before = small sent refl;
+      bytes-after = small unsigned refl;
+      few = omega arith;
+      guarded = λ e. omega arith;
+      inside =
+          record {
+            has = tt;
+            starts = omega arith;
+            ends = omega arith;
+            damaged = record { same-length = refl; same-front = refl; same-rest = refl; differ = λ e. other unsigned sent 0 0 0x4f refl refl (omega arith) (sym e) };
+          };
+    }) unsigned-refused in
+    let z : _≡_ {A = ℕ} 3 7 = ap kind named in
+    omega arith
+
+-- a packet without parts
+abbrev bare : ℕ → Message
+bare kind = record { type = kind; flags = 0; w0 = 0; w1 = 0; w2 = 0; w3 = 0; parts = [] }
+
+bare-valid : (kind : ℕ) → kind ≤ 2 → Valid (bare kind)
+bare-valid kind known =
+    record {
+      known = known;
+      flags-fit = omega arith;
+      w0-fits = omega arith;
+      w1-fits = omega arith;
+      w2-fits = omega arith;
+      w3-fits = omega arith;
+      few = omega arith;
+      small = λ i h. omega arith;
+    }
+
+pub whole-is-no-prefix : PrefixOrWhole → ⊥
+unfolding Wire.sealed Wire.packetBytes Wire.fixedFields Wire.idBytes Wire.packetSize Word.bytesOf Word.word Decide.firstFrom Polynomial.step Polynomial.steps Polynomial.foldByte Polynomial.fold Layout.takenBefore Reading.order Reading.reading Reading.entriesFrom
+whole-is-no-prefix wrong =
+    let held : Held (bare 1) 36 0 0 = record { counted = omega arith; within = λ e. omega arith; roomy = omega arith } in
+    let z : _≡_ {A = ℕ} 0 1 = ap kind (wrong (bare 1) 36 0 0 36 (bare-valid 1 (omega arith)) held (omega arith)) in
+    omega arith
+
+pub no-round-trip-under-any-limit : RoundTripUnderAnyLimit → ⊥
+unfolding Wire.sealed Wire.packetBytes Wire.fixedFields Wire.idBytes Wire.body Wire.sizes Wire.sums Wire.contents Word.bytesOf Word.word Decide.firstFrom Polynomial.step Polynomial.steps Polynomial.foldByte Polynomial.fold Layout.takenBefore Reading.order Reading.reading Reading.entriesFrom
+no-round-trip-under-any-limit wrong =
+    wrong (bare 0) 43 0 0 (bare-valid 0 (omega arith)) (omega arith) (omega arith) (44 ∷ 43 ∷ []) refl
+
+pub not-the-ceiling-alone : CeilingAlone → ⊥
+unfolding Word.bytesOf Word.word Decide.firstFrom Polynomial.step Polynomial.steps Polynomial.foldByte Polynomial.fold Layout.takenBefore Reading.order Reading.reading Reading.entriesFrom
+not-the-ceiling-alone wrong =
+    wrong (header packetSignature 1 zeros 0x1000_0001 ++ bytesOf 8 0) 0 0x1000_0001 0 (omega arith) (0x1000_0001 ∷ []) refl
+
+-- a Message with one empty part, and a table that held other words
+pub acceptance-does-not-leave-tables : AcceptanceLeavesTables → ⊥
+unfolding Word.bytesOf Word.word Decide.firstFrom Polynomial.step Polynomial.steps Polynomial.foldByte Polynomial.fold Layout.takenBefore Reading.order Reading.reading Reading.entriesFrom
+acceptance-does-not-leave-tables wrong =
+    let packet : Packet = record { «packet_type» = Plain; flags = record { 0 = 0 }; id = record { w0 = 0; w1 = 0; w2 = 0; w3 = 0 }; parts = 1 } in
+    let left = wrong (header packetSignature 0 zeros 1 ++ bytesOf 8 0 ++ bytesOf 4 0 ++ bytesOf 8 0 ++ bytesOf 8 0) 56 1 (7 ∷ 7 ∷ []) (Read packet 56) (56 ∷ 0 ∷ [])
+    (record { answer = refl; tables = refl }) in
+    let z : _≡_ {A = ℕ} 56 7 = ap (λ (l : List ℕ). getD l 0 0) left in
+    omega arith
