@@ -16,15 +16,16 @@ use Rattle.words.specs.Decide.{pick, _=?_, _≠?_, _<?_, decide}
 use Rattle.words.proofs.DecideLaws.{first-at, first-same}
 use Rattle.crc64.specs.Polynomial.{checksum}
 use Rattle.crc64.specs.Damage.{Damaged}
-use Rattle.packet.specs.Layout.{packetSignature, nullSize, largestPart, hasVariableHeader, headers, signature, type, count, fixedSum, fields, size, taken, takenBefore, partSum, variable, variableSum, start, whole, part}
-use Rattle.packet.specs.Paper.{paper, fieldsOf}
+use Rattle.packet.specs.Layout.{packetSignature, nullSize, largestPart, lastType, fixedFieldsSize, fixedHeaderSize, hasVariableHeader, headers, signature, type, count, fixedSum, fixedFields, size, isNull, taken, takenBefore, partSum, variable, variableSum, start, whole, part}
+use Rattle.packet_read.specs.Paper.{paper}
+use Rattle.packet.specs.Paper.{fieldsOf}
 use Rattle.promises.proofs.TablesKeep.{packet-tables-keep}
-use Rattle.packet.specs.Reading.{room, fails, isNull, tooLarge, partFails, firstTooLarge, firstFailing, order, reading}
-use Rattle.packet.proofs.SizeLaws.{taken-below}
+use Rattle.packet_read.specs.Reading.{Limits, fails, tooLarge, partFails, firstTooLarge, firstFailing, fixedLines, variableLines, sizeLines, partLines, reading}
+use Rattle.packet_read.proofs.SizeLaws.{taken-below}
 use Rattle.promises.specs.Damage.{Stretch, fixedHeader, variableHeader, partAt, from, long, Names, Confined, ConfinedIsNamed, DamageIsNamed}
 use Rattle.promises.proofs.Agreement.{same-word, same-stretch, other-checksum}
-use Rattle.promises.proofs.Acceptance.{guards, present, none-of, not-null}
-use Rattle.promises.proofs.Lines.{Before, Behind, lines-before, lines-behind, pass-before}
+use Rattle.promises.proofs.Acceptance.{guards, present, none-of, not-null, passed-before, passed-behind}
+use Rattle.promises.proofs.Lines.{Before, Behind, front, rest, reading-is, pass-before}
 
 -- a word that guarded one stretch fails another of another checksum
 broken : (word : ℕ) (a b : List ℕ) → (word ≡ 0 → ⊥) → fails word a ≡ false → (checksum a ≡ checksum b → ⊥) → fails word b ≡ true
@@ -33,33 +34,33 @@ broken word a b kept passed other =
     (λ (same : word ≡ checksum a). rw (ne-eqb word 0 kept, ne-eqb word (checksum b) (λ e. other (sym same ∙ e))))
     (guards word a passed)
 
-module _ (s t : List ℕ) (limit ceiling room : ℕ) {at run : ℕ} (damaged : Damaged at run s t) where
+module _ (s t : List ℕ) (limits : Limits) {at run : ℕ} (damaged : Damaged at run s t) where
   -- a stretch that holds the run has another checksum
   abbrev Changed : ℕ → ℕ → Type 0
   Changed from long = checksum (stretch s from long) ≡ checksum (stretch t from long) → ⊥
 
-  module _ (before : Before s (count s) ceiling) where
+  module _ (before : Before s (count s) limits) where
     -- bytes 0 to 27
-    fixed-named : (fixedSum s ≡ 0 → ⊥) → at + run ≤ 28 → Changed 0 28 → Names t fixedHeader (reading t limit ceiling room)
-    unfolding reading order
-    fixed-named kept high changed = by-signature (signature t ≠? packetSignature) refl
+    fixed-named : (fixedSum s ≡ 0 → ⊥) → at + run ≤ fixedFieldsSize → Changed 0 fixedFieldsSize → Names t fixedHeader (reading t limits)
+    unfolding fixedLines
+    fixed-named kept high changed = reading-is t (count t) limits refl ∙ by-signature (signature t ≠? packetSignature) refl
       where
-        long-enough : (length t <? 36) ≡ false
+        long-enough : (length t <? fixedHeaderSize) ≡ false
         long-enough = rw (← damaged .same-length) (before .there)
 
         word-is : fixedSum s ≡ fixedSum t
-        word-is = same-word damaged 8 28 (inr high)
+        word-is = same-word damaged 8 fixedFieldsSize (inr high)
 
-        failed : fails (fixedSum t) (take 28 t) ≡ true
-        failed = rw (← word-is) (broken (fixedSum s) (take 28 s) (take 28 t) kept (before .guarded) changed)
+        failed : fails (fixedSum t) (fixedFields t) ≡ true
+        failed = rw (← word-is) (broken (fixedSum s) (fixedFields s) (fixedFields t) kept (before .guarded) changed)
 
-        by-type : (b : Bool) → (signature t ≠? packetSignature) ≡ false → (2 <? type t) ≡ b → Names t fixedHeader (decide (order t (count t) limit ceiling room) (accepted (whole t (count t)) (fields t)))
+        by-type : (b : Bool) → (signature t ≠? packetSignature) ≡ false → (lastType <? type t) ≡ b → Names t fixedHeader (front t (count t) limits (rest t (count t) limits))
         by-type true e₁ e₂ = rw (long-enough, e₁, e₂)
         by-type false e₁ e₂ = rw (long-enough, e₁, e₂, failed)
 
-        by-signature : (b : Bool) → (signature t ≠? packetSignature) ≡ b → Names t fixedHeader (decide (order t (count t) limit ceiling room) (accepted (whole t (count t)) (fields t)))
+        by-signature : (b : Bool) → (signature t ≠? packetSignature) ≡ b → Names t fixedHeader (front t (count t) limits (rest t (count t) limits))
         by-signature true e = rw (long-enough, e)
-        by-signature false e = by-type (2 <? type t) e refl
+        by-signature false e = by-type (lastType <? type t) e refl
 
     -- where the run lies behind the fixed header, that header is read as before
     module _ (behind-fixed : 36 ≤ at) where
@@ -69,7 +70,7 @@ module _ (s t : List ℕ) (limit ceiling room : ℕ) {at run : ℕ} (damaged : D
       same-type : type s ≡ type t
       same-type = same-word damaged 2 4 (inl (omega arith))
 
-      before-too : Before t (count s) ceiling
+      before-too : Before t (count s) limits
       before-too =
           record {
             there = rw (← damaged .same-length) (before .there);
@@ -79,29 +80,23 @@ module _ (s t : List ℕ) (limit ceiling room : ℕ) {at run : ℕ} (damaged : D
             few = before .few;
           }
 
-      module _ (with-header : hasVariableHeader (type s) (count s) ≡ true) (behind : Behind s (count s) limit room) where
+      module _ (with-header : hasVariableHeader (type s) (count s) ≡ true) (behind : Behind s (count s) limits) where
         abbrev n : ℕ
         n = count s
-
-        abbrev end : Answer
-        end = accepted (whole t n) (fields t)
 
         header-too : hasVariableHeader (type t) n ≡ true
         header-too = rw (← same-type) with-header
 
         -- the reader's answer to t, past the fixed header
-        answer-is : reading t limit ceiling room ≡ decide (drop 6 (order t n limit ceiling room)) end
-        unfolding reading
-        answer-is =
-            ap (λ (k : ℕ). decide (order t k limit ceiling room) (accepted (whole t k) (fields t))) (sym same-count)
-            ∙ pass-before t n limit ceiling room end before-too header-too
+        answer-is : reading t limits ≡ rest t n limits
+        answer-is = reading-is t n limits (sym same-count) ∙ pass-before t n limits before-too (rest t n limits) header-too
 
         length-too : (m : ℕ) → (length s <? m) ≡ false → (length t <? m) ≡ false
         length-too m e = rw (← damaged .same-length) e
 
         -- bytes 36 to 36 + 12n
-        variable-named : (variableSum s n ≡ 0 → ⊥) → at + run ≤ 36 + 12 * n → Changed 36 (12 * n) → Names t variableHeader (reading t limit ceiling room)
-        unfolding order
+        variable-named : (variableSum s n ≡ 0 → ⊥) → at + run ≤ 36 + 12 * n → Changed 36 (12 * n) → Names t variableHeader (reading t limits)
+        unfolding variableLines
         variable-named kept high changed = rw (← same-count) (answer-is ∙ rw (behind .short, length-too (headers n) (behind .headers-there), failed))
           where
             word-is : variableSum s n ≡ variableSum t n
@@ -170,8 +165,8 @@ module _ (s t : List ℕ) (limit ceiling room : ℕ) {at run : ℕ} (damaged : D
             whole-too : whole s n ≡ whole t n
             whole-too = ap (λ (w : ℕ). headers n + w) (same-taken n (omega arith))
 
-            part-named : Names t (partAt i) (reading t limit ceiling room)
-            unfolding order
+            part-named : Names t (partAt i) (reading t limits)
+            unfolding variableLines sizeLines partLines
             part-named =
                 rw (← same-count)
                 (answer-is
@@ -192,34 +187,20 @@ module _ (s t : List ℕ) (limit ceiling room : ℕ) {at run : ℕ} (damaged : D
 counted-header : (s : List ℕ) (i : ℕ) → i < count s → hasVariableHeader (type s) (count s) ≡ true
 counted-header s i h = rw (lt-ltb 0 (count s) (omega arith)) (or-true (type s =? 0))
 
-reading-names : (s t : List ℕ) (limit ceiling entries n : ℕ) (f : List ℕ) (part : Stretch) (at run : ℕ)
-    → reading s limit ceiling entries ≡ accepted n f → Confined s t part at run → Names t part (reading t limit ceiling entries)
-unfolding reading
-reading-names s t limit ceiling entries n f fixedHeader at run e c =
-    fixed-named s t limit ceiling entries (c .inside .damaged)
-    (lines-before s (count s) limit ceiling entries _ (accepted n f) refl e .0)
-    (c .guarded)
-    (rw (zero-add 28) at (c .inside .ends))
-    (c .changed)
-reading-names s t limit ceiling entries n f variableHeader at run e c =
-    variable-named s t limit ceiling entries (c .inside .damaged)
-    (lines-before s (count s) limit ceiling entries _ (accepted n f) refl e .0)
-    (c .inside .starts)
-    (c .inside .has)
-    (lines-behind s (count s) limit ceiling entries _ (accepted n f) refl e (c .inside .has) .0)
+reading-names : (s t : List ℕ) (limits : Limits) (n : ℕ) (f : List ℕ) (part : Stretch) (at run : ℕ)
+    → reading s limits ≡ accepted n f → Confined s t part at run → Names t part (reading t limits)
+reading-names s t limits n f fixedHeader at run e c =
+    fixed-named s t limits (c .inside .damaged) (passed-before s limits n f e) (c .guarded) (rw (zero-add fixedFieldsSize) at (c .inside .ends)) (c .changed)
+reading-names s t limits n f variableHeader at run e c =
+    variable-named s t limits (c .inside .damaged) (passed-before s limits n f e) (c .inside .starts) (c .inside .has)
+    (passed-behind s limits n f e (c .inside .has))
     (c .guarded)
     (c .inside .ends)
     (c .changed)
-reading-names s t limit ceiling entries n f (partAt i) at run e c =
+reading-names s t limits n f (partAt i) at run e c =
     let low : start s (count s) i ≤ at = c .inside .starts in
     let there : hasVariableHeader (type s) (count s) ≡ true = counted-header s i (c .inside .has .0) in
-    part-named s t limit ceiling entries (c .inside .damaged)
-    (lines-before s (count s) limit ceiling entries _ (accepted n f) refl e .0)
-    (omega arith)
-    there
-    (lines-behind s (count s) limit ceiling entries _ (accepted n f) refl e there .0)
-    (omega arith)
-    i
+    part-named s t limits (c .inside .damaged) (passed-before s limits n f e) (omega arith) there (passed-behind s limits n f e there) (omega arith) i
     (c .inside .has .0)
     (c .inside .has .1)
     (c .guarded)
@@ -228,10 +209,10 @@ reading-names s t limit ceiling entries n f (partAt i) at run e c =
 
 -- an answer that names a stretch is no acceptance
 pub not-taken : (t : List ℕ) (part : Stretch) (a : Answer) → Names t part a → NotTaken a
-not-taken t fixedHeader a named = rw named (by-tests (signature t ≠? packetSignature) (2 <? type t))
+not-taken t fixedHeader a named = rw named (by-tests (signature t ≠? packetSignature) (lastType <? type t))
   where
     by-tests : (unsigned unknown : Bool)
-        → NotTaken (pick unsigned (refuse 1 (signature t ∷ [])) (pick unknown (refuse 2 (type t ∷ [])) (refuse 5 (fixedSum t ∷ checksum (take 28 t) ∷ []))))
+        → NotTaken (pick unsigned (refuse 1 (signature t ∷ [])) (pick unknown (refuse 2 (type t ∷ [])) (refuse 5 (fixedSum t ∷ checksum (fixedFields t) ∷ []))))
     by-tests true unknown = tt
     by-tests false true = tt
     by-tests false false = tt
@@ -241,19 +222,20 @@ not-taken t (partAt i) a named = rw named tt
 -- Damage that is confined to one checksummed stretch whose stored word is not 0, and that changed its checksum, is named, and the
 -- lent table is left as it was.
 pub confined-is-named : ConfinedIsNamed
-confined-is-named s t limit ceiling table lent packet consumed filled r after part at run taken hit same told =
-    let accepts : reading s limit ceiling (room lent) ≡ accepted consumed (fieldsOf packet) = ap (reading s limit ceiling) (sym same) ∙ sym (taken .answer) in
-    let named : Names t part (paper r) = rw (told .answer) (reading-names s t limit ceiling (room lent) consumed (fieldsOf packet) part at run accepts hit) in
-    (named, packet-tables-keep t limit ceiling lent r after told .0 (not-taken t part (paper r) named))
+confined-is-named s t limits table lent packet consumed filled r after part at run taken hit told =
+    let named : Names t part (paper r) = rw (told .answer) (reading-names s t limits consumed (fieldsOf packet) part at run (sym (taken .answer)) hit) in
+    (named, packet-tables-keep t limits lent r after told .0 (not-taken t part (paper r) named))
 
 -- Demand 3: damage is named. An accepted packet, damaged only inside one run of at most eight bytes of one checksummed stretch
 -- whose stored word is not 0, is refused by that stretch's checksum (or by 1 or 2, where its signature or type is none any more):
 -- an altered term does not pass for another term.
 pub damage-is-named : DamageIsNamed
-damage-is-named s t limit ceiling table lent packet consumed filled r after part at run taken hit =
-    confined-is-named s t limit ceiling table lent packet consumed filled r after part at run taken
+damage-is-named s t limits table lent packet consumed filled r after part at run taken hit =
+    confined-is-named s t limits table lent packet consumed filled r after part at run taken
     (record {
       guarded = hit .guarded;
       inside = hit .inside;
-      changed = other-checksum (hit .inside .damaged) (from s part) (long s part) (hit .inside .starts) (hit .inside .ends) (hit .few) (hit .bytes-before) (hit .bytes-after);
+      changed =
+          other-checksum (hit .inside .damaged) (from s part) (long s part) (hit .inside .starts) (hit .inside .ends) (hit .few) (hit .bytes-before)
+          (hit .bytes-after);
     })

@@ -9,22 +9,26 @@ use native.Mathlib.Omega.{arith}
 use borrow.Author.Tests.{lt-ltb, le-ltb, ne-eqb, eq-eqb}
 use lib.ListN.{length, getD, take, drop, List·getD-append}
 use lib.Seq.{getD-append-add, take-take}
-use Rattle.words.specs.Answer.{more}
+use Rattle.words.specs.Answer.{Answer, more, afterwards}
+use Rattle.words.proofs.Unique.{holds-kept}
 use Rattle.words.specs.Buffer.{over, stretch}
 use Rattle.words.specs.Decide.{pick, _=?_}
 use Rattle.words.proofs.BufferLaws.{length-over}
 use Rattle.packet.specs.Layout.{nullSize, largestPart, hasVariableHeader, type, count, fields, size, taken, start, whole}
-use Rattle.packet.specs.Reading.{isNull, nullLength, entry, entriesFrom, reading, room}
-use Rattle.packet.specs.Paper.{paper, fieldsOf}
+use Rattle.packet.specs.Layout.{isNull}
+use Rattle.packet.specs.Entries.{nullLength, entry, entriesFrom, entries, room}
+use Rattle.packet_read.specs.Reading.{reading}
+use Rattle.packet_read.specs.Paper.{paper}
+use Rattle.packet.specs.Paper.{fieldsOf}
 use Rattle.packet.specs.declared.Packet.{Packet}
-use Rattle.packet.specs.declared.Decoded.the-variants.{Read, More}
-use Rattle.packet.specs.Statement.{Decodes}
-use Rattle.packet.proofs.EntryLaws.{length-entries}
-use Rattle.packet.proofs.SizeLaws.{taken-below}
-use Rattle.packet.proofs.Unique.{paper-injective}
-use Rattle.packet_table.specs.Entries.{offsetAt, sizeAt, nullAt, outsideAt, isLent}
-use Rattle.packet_table.specs.Wire.{Part, null, bytes, content, partsOf}
-use Rattle.packet_table.proofs.EntryLaws.{none-past, none-null, none-outside, some-inside, lent-none, lent-some, from-none, from-some}
+use Rattle.packet_read.specs.declared.Decoded.the-variants.{Read, More}
+use Rattle.packet_read.specs.Statement.{Decodes}
+use Rattle.packet_read.proofs.EntryLaws.{length-entries}
+use Rattle.packet_read.proofs.SizeLaws.{taken-below}
+use Rattle.packet_read.proofs.Unique.{paper-injective}
+use Rattle.packet.specs.Entries.{offsetAt, sizeAt, nullAt, outsideAt, isLent}
+use Rattle.packet.specs.Wire.{Part, null, bytes, content, partsOf}
+use Rattle.packet.proofs.EntryLaws.{none-past, none-null, none-outside, some-inside, lent-none, lent-some, from-none, from-some}
 use Rattle.promises.specs.Acceptance.{Acceptable, VariableHeader, consumed as consumedOf}
 use Rattle.promises.specs.RoundTrip.{ReadsPart, Valid, given, wire}
 use Rattle.promises.specs.Parts.{LendsFront, LendsStretch, PartsAreLent, FrontIsLent, Lends, WrittenIsLent, PrefixAsksForMore}
@@ -111,15 +115,15 @@ module _ (s table : List ℕ) (n : ℕ) (there : whole s n ≤ length s) (roomy 
 -- The lent table of an accepted packet gives back each part: a null one as null, with the empty stretch at the input's front, and
 -- any other as the bytes that stand in the input, there.
 pub parts-are-lent : PartsAreLent
-parts-are-lent s limit ceiling table packet consumed after read = (counted, at)
+parts-are-lent s limits table packet consumed after roomy read = (counted, at)
   where
-    all : Acceptable s limit ceiling (room table) × (consumed ≡ consumedOf s) × (fieldsOf packet ≡ fields s)
-    all = acceptance s limit ceiling (room table) .1 consumed (fieldsOf packet) (sym (read .answer))
+    all : Acceptable s limits × (consumed ≡ consumedOf s) × (fieldsOf packet ≡ fields s)
+    all = acceptance s limits .1 consumed (fieldsOf packet) (sym (read .answer))
 
     counted : packet .parts ≡ count s
     counted = ap (λ (l : List ℕ). getD l 6 0) (all .2)
 
-    behind : (i : ℕ) → i < count s → VariableHeader s (count s) limit (room table)
+    behind : (i : ℕ) → i < count s → VariableHeader s (count s) limits
     behind i h = all .0 .1 (rw (lt-ltb 0 (count s) (omega arith)) (or-true (type s =? 0)))
 
     at : (i : ℕ) → i < count s
@@ -127,7 +131,9 @@ parts-are-lent s limit ceiling table packet consumed after read = (counted, at)
         × (isNull s i ≡ false → (nullAt after i ≡ false) × LendsStretch s after i (start s (count s) i) (size s i))
     at i h =
         let v = behind i h in
-        rw (read .tables) (null-lent s table (count s) (v .there) (v .roomy) i h, bytes-lent s table (count s) (v .there) (v .roomy) i h)
+        let enough : count s ≤ room table = rw roomy at (v .roomy) in
+        let filled : after ≡ over (entries s) table = read .tables ∙ ap (λ (a : Answer). afterwards a (entries s) table) (sym (read .answer)) in
+        rw filled (null-lent s table (count s) (v .there) enough i h, bytes-lent s table (count s) (v .there) enough i h)
 
 -- what is read as a part and is lent
 lends : (s after : List ℕ) (n i : ℕ) (p : Part) → length (content p) ≤ largestPart → ReadsPart s n i p
@@ -143,14 +149,14 @@ lends s after n i (bytes b) small is nulls others =
 
 -- What `encode` wrote, `decode_with` answers and `part` lends.
 pub written-is-lent : WrittenIsLent
-written-is-lent type flags id area table out n after tail limit ceiling lent r filled flags-fit id-fits told held read =
+written-is-lent type flags id area table out n after tail limits lent r filled flags-fit id-fits told roomy held read =
     let s : List ℕ = take n after ++ tail in
     let p : Packet = record { «packet_type» = type; flags = flags; id = id; parts = length (partsOf area table) } in
-    let back = written-reads type flags id area table out n after told tail limit ceiling (room lent) flags-fit id-fits held in
+    let back = written-reads type flags id area table out n after told tail limits flags-fit id-fits held in
     let ok : Valid _ = given-valid type flags id area table out n after flags-fit id-fits told in
     let same : r ≡ Read p n = paper-injective r (Read p n) (read .answer ∙ back .0) in
-    let read-so : Decodes s limit ceiling lent (Read p n) filled = rw same at read in
-    let parts = parts-are-lent s limit ceiling lent p n filled read-so in (
+    let read-so : Decodes s limits lent (Read p n) filled = rw same at read in
+    let parts = parts-are-lent s limits lent p n filled roomy read-so in (
       same,
       λ i h.
           let below : i < count s = rw (← parts .0) h in
@@ -160,13 +166,13 @@ written-is-lent type flags id area table out n after tail limit ceiling lent r f
 
 -- Each strict prefix of what `encode` wrote is answered by need-more, and the table is left as it was.
 pub prefix-asks-for-more : PrefixAsksForMore
-prefix-asks-for-more type flags id area table out n after limit ceiling lent r filled k flags-fit id-fits told held short read =
+prefix-asks-for-more type flags id area table out n after limits lent r filled k flags-fit id-fits told held short read =
     let m = given type flags id area table in
     let ok : Valid m = given-valid type flags id area table out n after flags-fit id-fits told in
     let front : take k after ≡ take k (wire m) =
     sym (take-take k n after (omega arith)) ∙ ap (take k) (written-bytes type flags id area table out n after told) in
-    let waits : reading (take k after) limit ceiling (room lent) ≡ more =
-    ap (λ (s : List ℕ). reading s limit ceiling (room lent)) front
-    ∙ strict-prefix m limit ceiling (room lent) k ok held (rw (written-size type flags id area table out n after told) short) in
+    let waits : reading (take k after) limits ≡ more =
+    ap (λ (s : List ℕ). reading s limits) front
+    ∙ strict-prefix m limits k ok held (rw (written-size type flags id area table out n after told) short) in
     let same : r ≡ More = paper-injective r More (read .answer ∙ waits) in
-    (same, rw same at (read .tables))
+    (same, holds-kept (reading (take k after) limits) (entries (take k after)) lent filled (rw waits tt) (read .tables))

@@ -16,18 +16,20 @@ use Rattle.crc64.specs.Polynomial.{checksum}
 use Rattle.crc64.specs.Damage.{Damaged}
 use Rattle.packet.specs.Layout as Layout
 use Rattle.packet.specs.Layout.{packetSignature, fixedSum}
-use Rattle.packet.specs.Reading as Reading
-use Rattle.packet.specs.Reading.{reading}
+use Rattle.packet_read.specs.Reading as Reading
+use Rattle.packet_read.specs.Reading.{limited, reading}
+use Rattle.packet.specs.Entries as Entries
+use Rattle.guid.specs.Guid.{guidOf, wireBytes}
 use Rattle.packet.specs.declared.PacketType.{PacketType}
 use Rattle.packet.specs.declared.PacketType.the-variants.{Message as Plain, Ack}
 use Rattle.packet.specs.declared.PacketError.the-variants.{Signature}
 use Rattle.packet.specs.declared.Packet.{Packet}
-use Rattle.packet.specs.declared.Decoded.the-variants.{Read, Refused}
-use Rattle.packet.specs.Paper.{paper}
-use Rattle.packet.specs.Statement.{Decodes}
-use Rattle.packet_table.specs.Wire as Wire
-use Rattle.packet_table.specs.Wire.{sealed}
-use Rattle.promises.specs.Damage.{Stretch, fixedHeader, Inside, Hit, NamedWhere, DamageHappens}
+use Rattle.packet_read.specs.declared.Decoded.the-variants.{Read, Refused}
+use Rattle.packet_read.specs.Paper.{paper}
+use Rattle.packet_read.specs.Statement.{Decodes}
+use Rattle.packet.specs.Wire as Wire
+use Rattle.packet.specs.Wire.{sealed}
+use Rattle.promises.specs.Damage.{Stretch, fixedHeader, Inside, Hit, NamedWhere, nothing, DamageHappens}
 use Rattle.promises.specs.RoundTrip.{Message, Valid, Held}
 use Rattle.promises.specs.Refuted.{HitOfNine, NineBytesAreNamed, HitUnguarded, UnguardedIsNamed, HitPast, PastIsNamed, AlwaysBy5, PrefixOrWhole, RoundTripUnderAnyLimit, CeilingAlone, AcceptanceLeavesTables}
 use Rattle.promises.proofs.Damage.{not-taken}
@@ -96,24 +98,24 @@ unguardedAltered = header packetSignature 1 one 0 ++ bytesOf 8 0
 abbrev unsigned : List ℕ
 unsigned = header 0 1 zeros 0 ++ bytesOf 8 (checksum (header packetSignature 1 zeros 0))
 
-sent-read : Decodes sent 0 0 [] (Read (ack 0 0 0 0) 36) []
-unfolding sealed Word.bytesOf Word.word Decide.firstFrom Polynomial.step Polynomial.steps Polynomial.foldByte Polynomial.fold Layout.takenBefore Reading.order Reading.reading Reading.entriesFrom
+sent-read : Decodes sent nothing [] (Read (ack 0 0 0 0) 36) []
+unfolding sealed Word.bytesOf Word.word Decide.firstFrom Polynomial.step Polynomial.steps Polynomial.foldByte Polynomial.fold Layout.takenBefore Reading.fixedLines Reading.countLines Reading.variableLines Reading.sizeLines Reading.partLines Reading.roomLines Reading.order Reading.reading Entries.entriesFrom
 sent-read = record { answer = refl; tables = refl }
 
-nine-read : Decodes alteredInNine 0 0 [] (Read (ack 0x2743_e501 0x7892_6597 0x81 0) 36) []
-unfolding sealed Word.bytesOf Word.word Decide.firstFrom Polynomial.step Polynomial.steps Polynomial.foldByte Polynomial.fold Layout.takenBefore Reading.order Reading.reading Reading.entriesFrom
+nine-read : Decodes alteredInNine nothing [] (Read (ack 0x2743_e501 0x7892_6597 0x81 0) 36) []
+unfolding sealed Word.bytesOf Word.word Decide.firstFrom Polynomial.step Polynomial.steps Polynomial.foldByte Polynomial.fold Layout.takenBefore Reading.fixedLines Reading.countLines Reading.variableLines Reading.sizeLines Reading.partLines Reading.roomLines Reading.order Reading.reading Entries.entriesFrom
 nine-read = record { answer = refl; tables = refl }
 
-unguarded-read : Decodes unguarded 0 0 [] (Read (ack 0 0 0 0) 36) []
-unfolding sealed Word.bytesOf Word.word Decide.firstFrom Polynomial.step Polynomial.steps Polynomial.foldByte Polynomial.fold Layout.takenBefore Reading.order Reading.reading Reading.entriesFrom
+unguarded-read : Decodes unguarded nothing [] (Read (ack 0 0 0 0) 36) []
+unfolding sealed Word.bytesOf Word.word Decide.firstFrom Polynomial.step Polynomial.steps Polynomial.foldByte Polynomial.fold Layout.takenBefore Reading.fixedLines Reading.countLines Reading.variableLines Reading.sizeLines Reading.partLines Reading.roomLines Reading.order Reading.reading Entries.entriesFrom
 unguarded-read = record { answer = refl; tables = refl }
 
-unguarded-altered-read : Decodes unguardedAltered 0 0 [] (Read (ack 1 0 0 0) 36) []
-unfolding sealed Word.bytesOf Word.word Decide.firstFrom Polynomial.step Polynomial.steps Polynomial.foldByte Polynomial.fold Layout.takenBefore Reading.order Reading.reading Reading.entriesFrom
+unguarded-altered-read : Decodes unguardedAltered nothing [] (Read (ack 1 0 0 0) 36) []
+unfolding sealed Word.bytesOf Word.word Decide.firstFrom Polynomial.step Polynomial.steps Polynomial.foldByte Polynomial.fold Layout.takenBefore Reading.fixedLines Reading.countLines Reading.variableLines Reading.sizeLines Reading.partLines Reading.roomLines Reading.order Reading.reading Entries.entriesFrom
 unguarded-altered-read = record { answer = refl; tables = refl }
 
-unsigned-refused : Decodes unsigned 0 0 [] (Refused (Signature 0) 0) []
-unfolding sealed Word.bytesOf Word.word Decide.firstFrom Polynomial.step Polynomial.steps Polynomial.foldByte Polynomial.fold Layout.takenBefore Reading.order Reading.reading Reading.entriesFrom
+unsigned-refused : Decodes unsigned nothing [] (Refused (Signature 0) 0) []
+unfolding sealed Word.bytesOf Word.word Decide.firstFrom Polynomial.step Polynomial.steps Polynomial.foldByte Polynomial.fold Layout.takenBefore Reading.fixedLines Reading.countLines Reading.variableLines Reading.sizeLines Reading.partLines Reading.roomLines Reading.order Reading.reading Entries.entriesFrom
 unsigned-refused = record { answer = refl; tables = refl }
 
 -- two strings that differ at one place differ
@@ -145,9 +147,9 @@ damage-happens =
 
 -- damage after which the packet is still read is not named
 unnamed : (Altered : List ℕ → List ℕ → Stretch → ℕ → ℕ → Type 0) (s t : List ℕ) (p q : Packet) (part : Stretch) (at run : ℕ)
-    → Decodes s 0 0 [] (Read p 36) [] → Decodes t 0 0 [] (Read q 36) [] → Altered s t part at run → NamedWhere Altered → ⊥
+    → Decodes s nothing [] (Read p 36) [] → Decodes t nothing [] (Read q 36) [] → Altered s t part at run → NamedWhere Altered → ⊥
 unnamed Altered s t p q part at run whole damaged hit wrong =
-    not-taken t part (paper (Read q 36)) (wrong s t 0 0 [] [] p 36 [] (Read q 36) [] part at run whole hit refl damaged .0)
+    not-taken t part (paper (Read q 36)) (wrong s t nothing [] [] p 36 [] (Read q 36) [] part at run whole hit damaged .0)
 
 pub nine-bytes-are-not-named : NineBytesAreNamed → ⊥
 unfolding sealed Word.bytesOf Word.word Polynomial.step Polynomial.steps Polynomial.foldByte Polynomial.fold
@@ -203,7 +205,7 @@ past-is-not-named =
 pub not-always-by-5 : AlwaysBy5 → ⊥
 unfolding sealed Word.bytesOf Word.word Polynomial.step Polynomial.steps Polynomial.foldByte Polynomial.fold
 not-always-by-5 wrong =
-    let named = wrong sent unsigned 0 0 [] (ack 0 0 0 0) 36 [] (Refused (Signature 0) 0) [] 0 4 sent-read (record {
+    let named = wrong sent unsigned nothing [] (ack 0 0 0 0) 36 [] (Refused (Signature 0) 0) [] 0 4 sent-read (record {
       bytes-before = small sent refl;
       bytes-after = small unsigned refl;
       few = omega arith;
@@ -221,44 +223,41 @@ not-always-by-5 wrong =
 
 -- a packet without parts
 abbrev bare : ℕ → Message
-bare kind = record { type = kind; flags = 0; w0 = 0; w1 = 0; w2 = 0; w3 = 0; parts = [] }
+bare kind = record { type = kind; flags = 0; id = guidOf 0 0 0 0; parts = [] }
 
 bare-valid : (kind : ℕ) → kind ≤ 2 → Valid (bare kind)
 bare-valid kind known =
     record {
       known = known;
       flags-fit = omega arith;
-      w0-fits = omega arith;
-      w1-fits = omega arith;
-      w2-fits = omega arith;
-      w3-fits = omega arith;
+      id-fits = record { fits0 = omega arith; fits1 = omega arith; fits2 = omega arith; fits3 = omega arith };
       few = omega arith;
       small = λ i h. omega arith;
     }
 
 pub whole-is-no-prefix : PrefixOrWhole → ⊥
-unfolding Wire.sealed Wire.packetBytes Wire.fixedFields Wire.idBytes Wire.packetSize Word.bytesOf Word.word Decide.firstFrom Polynomial.step Polynomial.steps Polynomial.foldByte Polynomial.fold Layout.takenBefore Reading.order Reading.reading Reading.entriesFrom
+unfolding Wire.sealed Wire.packetBytes Wire.fixedFields wireBytes Wire.packetSize Word.bytesOf Word.word Decide.firstFrom Polynomial.step Polynomial.steps Polynomial.foldByte Polynomial.fold Layout.takenBefore Reading.fixedLines Reading.countLines Reading.variableLines Reading.sizeLines Reading.partLines Reading.roomLines Reading.order Reading.reading Entries.entriesFrom
 whole-is-no-prefix wrong =
-    let held : Held (bare 1) 36 0 0 = record { counted = omega arith; within = λ e. omega arith; roomy = omega arith } in
-    let z : _≡_ {A = ℕ} 0 1 = ap kind (wrong (bare 1) 36 0 0 36 (bare-valid 1 (omega arith)) held (omega arith)) in
+    let held : Held (bare 1) (limited 36 0 []) = record { counted = omega arith; within = λ e. omega arith; roomy = omega arith } in
+    let z : _≡_ {A = ℕ} 0 1 = ap kind (wrong (bare 1) (limited 36 0 []) 36 (bare-valid 1 (omega arith)) held (omega arith)) in
     omega arith
 
 pub no-round-trip-under-any-limit : RoundTripUnderAnyLimit → ⊥
-unfolding Wire.sealed Wire.packetBytes Wire.fixedFields Wire.idBytes Wire.body Wire.sizes Wire.sums Wire.contents Word.bytesOf Word.word Decide.firstFrom Polynomial.step Polynomial.steps Polynomial.foldByte Polynomial.fold Layout.takenBefore Reading.order Reading.reading Reading.entriesFrom
+unfolding Wire.sealed Wire.packetBytes Wire.fixedFields wireBytes Wire.body Wire.sizes Wire.sums Wire.contents Word.bytesOf Word.word Decide.firstFrom Polynomial.step Polynomial.steps Polynomial.foldByte Polynomial.fold Layout.takenBefore Reading.fixedLines Reading.countLines Reading.variableLines Reading.sizeLines Reading.partLines Reading.roomLines Reading.order Reading.reading Entries.entriesFrom
 no-round-trip-under-any-limit wrong =
-    wrong (bare 0) 43 0 0 (bare-valid 0 (omega arith)) (omega arith) (omega arith) (44 ∷ 43 ∷ []) refl
+    wrong (bare 0) (limited 43 0 []) (bare-valid 0 (omega arith)) (omega arith) (omega arith) (44 ∷ 43 ∷ []) refl
 
 pub not-the-ceiling-alone : CeilingAlone → ⊥
-unfolding Word.bytesOf Word.word Decide.firstFrom Polynomial.step Polynomial.steps Polynomial.foldByte Polynomial.fold Layout.takenBefore Reading.order Reading.reading Reading.entriesFrom
+unfolding Word.bytesOf Word.word Decide.firstFrom Polynomial.step Polynomial.steps Polynomial.foldByte Polynomial.fold Layout.takenBefore Reading.fixedLines Reading.countLines Reading.variableLines Reading.sizeLines Reading.partLines Reading.roomLines Reading.order Reading.reading Entries.entriesFrom
 not-the-ceiling-alone wrong =
-    wrong (header packetSignature 1 zeros 0x1000_0001 ++ bytesOf 8 0) 0 0x1000_0001 0 (omega arith) (0x1000_0001 ∷ []) refl
+    wrong (header packetSignature 1 zeros 0x1000_0001 ++ bytesOf 8 0) (limited 0 0x1000_0001 []) (omega arith) (0x1000_0001 ∷ []) refl
 
 -- a Message with one empty part, and a table that held other words
 pub acceptance-does-not-leave-tables : AcceptanceLeavesTables → ⊥
-unfolding Word.bytesOf Word.word Decide.firstFrom Polynomial.step Polynomial.steps Polynomial.foldByte Polynomial.fold Layout.takenBefore Reading.order Reading.reading Reading.entriesFrom
+unfolding Word.bytesOf Word.word Decide.firstFrom Polynomial.step Polynomial.steps Polynomial.foldByte Polynomial.fold Layout.takenBefore Reading.fixedLines Reading.countLines Reading.variableLines Reading.sizeLines Reading.partLines Reading.roomLines Reading.order Reading.reading Entries.entriesFrom
 acceptance-does-not-leave-tables wrong =
     let packet : Packet = record { «packet_type» = Plain; flags = record { 0 = 0 }; id = record { w0 = 0; w1 = 0; w2 = 0; w3 = 0 }; parts = 1 } in
-    let left = wrong (header packetSignature 0 zeros 1 ++ bytesOf 8 0 ++ bytesOf 4 0 ++ bytesOf 8 0 ++ bytesOf 8 0) 56 1 (7 ∷ 7 ∷ []) (Read packet 56) (56 ∷ 0 ∷ [])
+    let left = wrong (header packetSignature 0 zeros 1 ++ bytesOf 8 0 ++ bytesOf 4 0 ++ bytesOf 8 0 ++ bytesOf 8 0) (limited 56 1 (7 ∷ 7 ∷ [])) (7 ∷ 7 ∷ []) (Read packet 56) (56 ∷ 0 ∷ [])
     (record { answer = refl; tables = refl }) in
     let z : _≡_ {A = ℕ} 56 7 = ap (λ (l : List ℕ). getD l 0 0) left in
     omega arith

@@ -6,20 +6,19 @@ use Prim.Native.Nat.{ℕ, _+_, _*_, _≤_, _<_}
 use mathlib.Core.Bool.{true}
 use mathlib.Core.List.{List, [], _∷_}
 use mathlib.Core.Path.{_≡_}
-use lib.ListN.{take}
 use Rattle.words.specs.Word.{Bytes}
 use Rattle.words.specs.Answer.{Answer, refused, refuse}
 use Rattle.words.specs.Buffer.{stretch}
 use Rattle.words.specs.Decide.{decide, _⇒_, _≠?_, _<?_}
 use Rattle.crc64.specs.Polynomial.{checksum}
 use Rattle.crc64.specs.Damage.{Damaged}
-use Rattle.packet.specs.Layout.{packetSignature, nullSize, hasVariableHeader, signature, type, count, fixedSum, size, taken, partSum, variable, variableSum, start, part}
+use Rattle.packet.specs.Layout.{packetSignature, nullSize, lastType, fixedFieldsSize, fixedHeaderSize, partHeaderSize, hasVariableHeader, signature, type, count, fixedSum, fixedFields, size, taken, partSum, variable, variableSum, start, part}
 use Rattle.packet.specs.declared.Packet.{Packet}
-use Rattle.packet.specs.declared.Decoded.{Decoded}
-use Rattle.packet.specs.declared.Decoded.the-variants.{Read}
-use Rattle.packet.specs.Paper.{paper}
-use Rattle.packet.specs.Statement.{Decodes}
-use Rattle.packet.specs.Reading.{room}
+use Rattle.packet_read.specs.declared.Decoded.{Decoded}
+use Rattle.packet_read.specs.declared.Decoded.the-variants.{Read}
+use Rattle.packet_read.specs.Paper.{paper}
+use Rattle.packet_read.specs.Statement.{Decodes}
+use Rattle.packet_read.specs.Reading.{Limits, limited}
 
 -- the checksummed stretches of a packet
 pub data Stretch : Type 0 where
@@ -37,12 +36,12 @@ module _ (s : List ℕ) where
   -- where it begins, how long it is, and the checksum word stored for it
   abbrev pub from : Stretch → ℕ
   from fixedHeader = 0
-  from variableHeader = 36
+  from variableHeader = fixedHeaderSize
   from (partAt i) = start s (count s) i
 
   abbrev pub long : Stretch → ℕ
-  long fixedHeader = 28
-  long variableHeader = 12 * count s
+  long fixedHeader = fixedFieldsSize
+  long variableHeader = partHeaderSize * count s
   long (partAt i) = taken s i
 
   abbrev pub stored : Stretch → ℕ
@@ -55,8 +54,8 @@ module _ (s : List ℕ) where
   abbrev pub Names : Stretch → Answer → Type 0
   Names fixedHeader a =
       a
-      ≡ decide (signature s ≠? packetSignature ⇒ refuse 1 (signature s ∷ []) ∷ 2 <? type s ⇒ refuse 2 (type s ∷ []) ∷ [])
-      (refuse 5 (fixedSum s ∷ checksum (take 28 s) ∷ []))
+      ≡ decide (signature s ≠? packetSignature ⇒ refuse 1 (signature s ∷ []) ∷ lastType <? type s ⇒ refuse 2 (type s ∷ []) ∷ [])
+      (refuse 5 (fixedSum s ∷ checksum (fixedFields s) ∷ []))
   Names variableHeader a = a ≡ refuse 6 (variableSum s (count s) ∷ checksum (variable s (count s)) ∷ [])
   Names (partAt i) a = a ≡ refused 7 (i ∷ partSum s (count s) i ∷ checksum (part s (count s) i) ∷ []) (start s (count s) (i + 1))
 
@@ -81,16 +80,15 @@ pub record Hit (s t : List ℕ) (part : Stretch) (at run : ℕ) : Type 0 where
   pub guarded : stored s part ≡ 0 → ⊥
   pub inside : Inside s t part at run
 
--- Of the function, by its own statement `Decodes`: an altered packet, read under the same limits and with the same room, is answered by
+-- Of the function, by its own statement `Decodes`: an altered packet, read under the same limits, its table's room among them, is answered by
 -- a refusal that names the stretch, and the lent table is left as it was.
 abbrev pub NamedWhere : (List ℕ → List ℕ → Stretch → ℕ → ℕ → Type 0) → Type 0
 NamedWhere Altered =
-    (s t : List ℕ) (limit ceiling : ℕ) (table lent : List ℕ) (packet : Packet) (consumed : ℕ) (filled : List ℕ)
+    (s t : List ℕ) (limits : Limits) (table lent : List ℕ) (packet : Packet) (consumed : ℕ) (filled : List ℕ)
     (r : Decoded) (after : List ℕ) (part : Stretch) (at run : ℕ)
-    → Decodes s limit ceiling table (Read packet consumed) filled
+    → Decodes s limits table (Read packet consumed) filled
     → Altered s t part at run
-    → room table ≡ room lent
-    → Decodes t limit ceiling lent r after
+    → Decodes t limits lent r after
     → Names t part (paper r) × (after ≡ lent)
 
 -- whatever the damage: where it is confined to one stretch and changed its checksum, it is named
@@ -101,10 +99,14 @@ ConfinedIsNamed = NamedWhere Confined
 abbrev pub DamageIsNamed : Type 0
 DamageIsNamed = NamedWhere Hit
 
+-- the limits of a call that allows no bytes, no parts and lends no table
+abbrev pub nothing : Limits
+nothing = limited 0 0 []
+
 -- its premises can be met: a packet that is read, and one that a run of damage made of it
 pub record DamageHappens : Type 0 where
   pub sent : List ℕ
   pub received : List ℕ
   pub packet : Packet
-  pub read : Decodes sent 0 0 [] (Read packet 36) []
+  pub read : Decodes sent nothing [] (Read packet fixedHeaderSize) []
   pub hit : Hit sent received fixedHeader 8 1

@@ -10,16 +10,18 @@ use Rattle.words.specs.Buffer.{stretch}
 use Rattle.guid.specs.declared.Guid.{Guid}
 use Rattle.guid.specs.Guid.{Fitting}
 use Rattle.packet.specs.Layout.{count, size, start}
-use Rattle.packet.specs.Reading.{isNull, room}
+use Rattle.packet.specs.Layout.{isNull}
+use Rattle.packet.specs.Entries.{room}
 use Rattle.packet.specs.declared.PacketType.{PacketType}
 use Rattle.packet.specs.declared.PacketFlags.{PacketFlags}
 use Rattle.packet.specs.declared.Packet.{Packet}
-use Rattle.packet.specs.declared.Decoded.{Decoded}
-use Rattle.packet.specs.declared.Decoded.the-variants.{Read, More}
-use Rattle.packet.specs.Statement.{Decodes}
-use Rattle.packet_table.specs.Entries.{nullAt, outsideAt}
-use Rattle.packet_table.specs.Statement.{LendsPart}
-use Rattle.packet_table.specs.Wire.{Part, null, bytes, partsOf}
+use Rattle.packet_read.specs.declared.Decoded.{Decoded}
+use Rattle.packet_read.specs.declared.Decoded.the-variants.{Read, More}
+use Rattle.packet_read.specs.Reading.{Limits}
+use Rattle.packet_read.specs.Statement.{Decodes}
+use Rattle.packet.specs.Entries.{nullAt, outsideAt}
+use Rattle.packet.specs.Statement.{LendsPart}
+use Rattle.packet.specs.Wire.{Part, null, bytes, partsOf}
 use Rattle.packet_write.specs.declared.Encoded.the-variants.{Written}
 use Rattle.packet_write.specs.Statement.{Encodes}
 use Rattle.promises.specs.RoundTrip.{Held, given}
@@ -38,8 +40,9 @@ module _ (s table : List ℕ) (i : ℕ) where
 -- the parts of an accepted packet: nulls as nulls, and any other where it stands
 abbrev pub PartsAreLent : Type 0
 PartsAreLent =
-    (s : List ℕ) (limit ceiling : ℕ) (table : List ℕ) (packet : Packet) (consumed : ℕ) (filled : List ℕ)
-    → Decodes s limit ceiling table (Read packet consumed) filled
+    (s : List ℕ) (limits : Limits) (table : List ℕ) (packet : Packet) (consumed : ℕ) (filled : List ℕ)
+    → limits .room ≡ room table
+    → Decodes s limits table (Read packet consumed) filled
     → (packet .parts ≡ count s)
     × ((i : ℕ) → i < count s
     → (isNull s i ≡ true → (nullAt filled i ≡ true) × LendsFront s filled i)
@@ -61,11 +64,12 @@ Lends s filled i (bytes b) =
 abbrev pub WrittenIsLent : Type 0
 WrittenIsLent =
     (type : PacketType) (flags : PacketFlags) (id : Guid) (area table out : List ℕ) (n : ℕ) (after tail : List ℕ)
-    (limit ceiling : ℕ) (lent : List ℕ) (r : Decoded) (filled : List ℕ)
+    (limits : Limits) (lent : List ℕ) (r : Decoded) (filled : List ℕ)
     → flags .0 < 2 ^ 16 → Fitting id
     → Encodes type flags id area table out (Written n) after
-    → Held (given type flags id area table) limit ceiling (room lent)
-    → Decodes (take n after ++ tail) limit ceiling lent r filled
+    → limits .room ≡ room lent
+    → Held (given type flags id area table) limits
+    → Decodes (take n after ++ tail) limits lent r filled
     → (r ≡ Read (record { «packet_type» = type; flags = flags; id = id; parts = length (partsOf area table) }) n)
     × ((i : ℕ) → i < length (partsOf area table)
     → Lends (take n after ++ tail) filled i (getD (partsOf area table) i null))
@@ -74,10 +78,10 @@ WrittenIsLent =
 abbrev pub PrefixAsksForMore : Type 0
 PrefixAsksForMore =
     (type : PacketType) (flags : PacketFlags) (id : Guid) (area table out : List ℕ) (n : ℕ) (after : List ℕ)
-    (limit ceiling : ℕ) (lent : List ℕ) (r : Decoded) (filled : List ℕ) (k : ℕ)
+    (limits : Limits) (lent : List ℕ) (r : Decoded) (filled : List ℕ) (k : ℕ)
     → flags .0 < 2 ^ 16 → Fitting id
     → Encodes type flags id area table out (Written n) after
-    → Held (given type flags id area table) limit ceiling (room lent)
+    → Held (given type flags id area table) limits
     → k < n
-    → Decodes (take k after) limit ceiling lent r filled
+    → Decodes (take k after) limits lent r filled
     → (r ≡ More) × (filled ≡ lent)

@@ -8,13 +8,13 @@ use Rattle.words.specs.Word.{Bytes}
 use Rattle.words.specs.Answer.{accepted, more, refuse}
 use Rattle.crc64.specs.Polynomial.{checksum}
 use Rattle.crc64.specs.Damage.{Damaged}
-use Rattle.packet.specs.Layout.{count, fixedSum}
-use Rattle.packet.specs.Reading.{reading}
+use Rattle.packet.specs.Layout.{count, fixedSum, fixedFields}
+use Rattle.packet_read.specs.Reading.{Limits, reading}
 use Rattle.packet.specs.declared.Packet.{Packet}
-use Rattle.packet.specs.declared.Decoded.{Decoded}
-use Rattle.packet.specs.declared.Decoded.the-variants.{Read}
-use Rattle.packet.specs.Paper.{paper}
-use Rattle.packet.specs.Statement.{Decodes}
+use Rattle.packet_read.specs.declared.Decoded.{Decoded}
+use Rattle.packet_read.specs.declared.Decoded.the-variants.{Read}
+use Rattle.packet_read.specs.Paper.{paper}
+use Rattle.packet_read.specs.Statement.{Decodes}
 use Rattle.promises.specs.Damage.{Stretch, fixedHeader, Has, from, long, stored, Inside, Hit, NamedWhere}
 use Rattle.promises.specs.RoundTrip.{Message, wire, wireSize, Valid, Held}
 
@@ -56,33 +56,31 @@ PastIsNamed = NamedWhere HitPast
 -- damage to the fixed header is always named by 5
 abbrev pub AlwaysBy5 : Type 0
 AlwaysBy5 =
-    (s t : List ℕ) (limit ceiling : ℕ) (table : List ℕ) (packet : Packet) (consumed : ℕ) (filled : List ℕ)
+    (s t : List ℕ) (limits : Limits) (table : List ℕ) (packet : Packet) (consumed : ℕ) (filled : List ℕ)
     (r : Decoded) (after : List ℕ) (at run : ℕ)
-    → Decodes s limit ceiling table (Read packet consumed) filled
+    → Decodes s limits table (Read packet consumed) filled
     → Hit s t fixedHeader at run
-    → Decodes t limit ceiling table r after
-    → paper r ≡ refuse 5 (fixedSum t ∷ checksum (take 28 t) ∷ [])
+    → Decodes t limits table r after
+    → paper r ≡ refuse 5 (fixedSum t ∷ checksum (fixedFields t) ∷ [])
 
 -- the whole packet counts as a prefix of itself
 abbrev pub PrefixOrWhole : Type 0
 PrefixOrWhole =
-    (m : Message) (limit ceiling room k : ℕ) → Valid m → Held m limit ceiling room → k ≤ wireSize m
-    → reading (take k (wire m)) limit ceiling room ≡ more
+    (m : Message) (limits : Limits) (k : ℕ) → Valid m → Held m limits → k ≤ wireSize m → reading (take k (wire m)) limits ≡ more
 
 -- a packet is read back under any byte limit
 abbrev pub RoundTripUnderAnyLimit : Type 0
 RoundTripUnderAnyLimit =
-    (m : Message) (limit ceiling room : ℕ) → Valid m → length (m .parts) ≤ ceiling → length (m .parts) ≤ room
-    → (fields : List ℕ) → reading (wire m) limit ceiling room ≡ refuse 8 fields → ⊥
+    (m : Message) (limits : Limits) → Valid m → length (m .parts) ≤ limits .parts → length (m .parts) ≤ limits .room
+    → (fields : List ℕ) → reading (wire m) limits ≡ refuse 8 fields → ⊥
 
 -- the ceiling alone bounds the parts
 abbrev pub CeilingAlone : Type 0
 CeilingAlone =
-    (s : List ℕ) (limit ceiling room : ℕ) → count s ≤ ceiling
-    → (fields : List ℕ) → reading s limit ceiling room ≡ refuse 3 fields → ⊥
+    (s : List ℕ) (limits : Limits) → count s ≤ limits .parts → (fields : List ℕ) → reading s limits ≡ refuse 3 fields → ⊥
 
 -- an accepted packet leaves the table as it was
 abbrev pub AcceptanceLeavesTables : Type 0
 AcceptanceLeavesTables =
-    (s : List ℕ) (limit ceiling : ℕ) (table : List ℕ) (r : Decoded) (after : List ℕ) → Decodes s limit ceiling table r after
+    (s : List ℕ) (limits : Limits) (table : List ℕ) (r : Decoded) (after : List ℕ) → Decodes s limits table r after
     → after ≡ table

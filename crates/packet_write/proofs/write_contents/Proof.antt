@@ -6,8 +6,8 @@ use native.Mathlib.Nat.{sub-zero}
 use native.Mathlib.Omega.{arith}
 use borrow.Author.Needs.{needs}
 use lib.ListN.{length, length-append}
-use Rattle.packet.specs.Reading.{room}
-use Rattle.packet_table.specs.Wire.{contents, content, partAt, partsFrom, partsOf}
+use Rattle.packet.specs.Entries.{room}
+use Rattle.packet.specs.Wire.{contents, content, partAt, partsFrom, partsOf}
 use Rattle.words.specs.Filling.{Filling}
 use Rattle.packet_write.proofs.FillingLaws.{begins, place, room-left, length-now, step, leaves, ends}
 use Rattle.packet_write.proofs.PieceLaws.{parts-next, parts-end, lent-content}

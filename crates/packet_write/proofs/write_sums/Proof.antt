@@ -10,10 +10,10 @@ use lib.ListN.{length}
 use Rattle.words.specs.Word.{Bytes}
 use Rattle.crc64.specs.Polynomial.{checksum}
 use Rattle.crc64.proofs.Entries.{checksum-over-is}
-use Rattle.packet.specs.Reading.{room}
-use Rattle.packet_table.specs.Entries.{lentAt}
-use Rattle.packet_table.specs.Wire.{sums, sumWord, partAt, partsFrom, partsOf}
-use Rattle.packet_table.proofs.WireLaws.{length-parts}
+use Rattle.packet.specs.Entries.{room}
+use Rattle.packet.specs.Entries.{lentAt}
+use Rattle.packet.specs.Wire.{sums, sumWord, partAt, partsFrom, partsOf}
+use Rattle.packet_check.proofs.WireLaws.{length-parts}
 use Rattle.words.specs.Filling.{Filling}
 use Rattle.packet_write.proofs.FillingLaws.{begins, place, length-now, word-step, ends}
 use Rattle.packet_write.proofs.PieceLaws.{bytes-lent, length-sums, parts-next, parts-end, lent-content, sum-content}
