@@ -1,5 +1,5 @@
--- The lent part table, from document 01: "Part: two u64 words, offset and length; null is offset 0, length 2^64-1. Offsets count
--- from the start of the read input, or of the byte area when writing." Assumes nothing.
+-- The lent part table, from document 01: "Part: two u64 words, offset and length; null is offset 0, length 2^64-1.
+-- Offsets count from the start of the read input, or of the byte area when writing." Assumes nothing.
 use Prim.Native.Nat.{ℕ, zero, suc, _+_, _*_, _/_, _^_, _-_}
 use mathlib.Core.Bool.{Bool, not, _&&_}
 use mathlib.Core.List.{List, [], _∷_, _++_}
@@ -62,8 +62,8 @@ module _ (area table : List ℕ) (i : ℕ) where
   abbrev pub stretchAt : List ℕ
   stretchAt = stretch area (offsetAt table i) (sizeAt table i)
 
-  -- "Asked for part i, the library lends back exactly that stretch of the input; a null part, or an i or entry outside the table
-  -- or input, gives the empty stretch at the front."
+  -- "Asked for part i, the library lends back exactly that stretch of the input; a null part, or an i or entry outside
+  -- the table or input, gives the empty stretch at the front."
   unfoldable pub isLent : Bool
   isLent = i <? room table && not (nullAt table i) && not outsideAt
 

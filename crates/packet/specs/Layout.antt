@@ -1,6 +1,7 @@
--- The layout of a packet, from document 01: "Bytes 0-3 signature 0x78616d4f, 4-5 type, 6-7 flags, 8-23 id, 24-27 part count n,
--- 28-35 checksum of bytes 0-27. A Message always, the others only with n > 0, then have n sizes (4 bytes each), n part checksums
--- (8 each), the checksum of those 12n bytes (8), and the parts. Size 0xffffffff means null, 0 means empty." Assumes nothing.
+-- The layout of a packet, from document 01: "Bytes 0-3 signature 0x78616d4f, 4-5 type, 6-7 flags, 8-23 id, 24-27 part
+-- count n, 28-35 checksum of bytes 0-27. A Message always, the others only with n > 0, then have n sizes (4 bytes
+-- each), n part checksums (8 each), the checksum of those 12n bytes (8), and the parts. Size 0xffffffff means null, 0
+-- means empty." Assumes nothing.
 use Prim.Native.Nat.{ℕ, zero, suc, _+_, _*_, _^_}
 use mathlib.Core.Bool.{Bool, _||_}
 use mathlib.Core.List.{List, [], _∷_}

@@ -1,4 +1,5 @@
--- What the enums of the code mean in document 01's terms: its numbers, and the values each carries, in its order. Assumes nothing.
+-- What the enums of the code mean in document 01's terms: its numbers, and the values each carries, in its order.
+-- Assumes nothing.
 use Prim.Native.Nat.{ℕ}
 use mathlib.Core.List.{List, [], _∷_}
 use Rattle.words.specs.Answer.{Answer, refused}

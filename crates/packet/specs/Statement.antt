@@ -43,7 +43,8 @@ TellsNull offset size r = r ≡ isNull offset size
 abbrev pub TellsOutside : ℕ → ℕ → ℕ → Bool → Type 0
 TellsOutside given offset size r = r ≡ isOutside given offset size
 
--- r is part i's stretch of the input, and lies in it: an input that lies at `from`, a block and an offset in it, lends it at `at`
+-- r is part i's stretch of the input, and lies in it: an input that lies at `from`, a block and an offset in it, lends
+-- it at `at`
 pub record LendsPart (input table : List ℕ) (i : ℕ) (from : ℕ × ℕ) (r : List ℕ) (at : ℕ × ℕ) : Type 0 where
   pub bytes : r ≡ lentAt input table i
   pub block : at .0 ≡ from .0

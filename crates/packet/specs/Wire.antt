@@ -1,6 +1,7 @@
--- What a packet is on the wire, as one function from its fields and parts to bytes. Document 01: "Bytes 0-3 signature, 4-5 type,
--- 6-7 flags, 8-23 id, 24-27 part count n, 28-35 checksum of bytes 0-27. A Message always, the others only with n > 0, then have
--- n sizes (4 bytes each), n part checksums (8 each), the checksum of those 12n bytes (8), and the parts." Assumes nothing.
+-- What a packet is on the wire, as one function from its fields and parts to bytes. Document 01: "Bytes 0-3 signature,
+-- 4-5 type, 6-7 flags, 8-23 id, 24-27 part count n, 28-35 checksum of bytes 0-27. A Message always, the others only
+-- with n > 0, then have n sizes (4 bytes each), n part checksums (8 each), the checksum of those 12n bytes (8), and the
+-- parts." Assumes nothing.
 use Prim.Native.Nat.{ℕ, zero, suc, _+_}
 use mathlib.Core.List.{List, [], _∷_, _++_}
 use lib.ListN.{length}
@@ -48,7 +49,8 @@ sealed bs = bs ++ bytesOf 8 (checksum bs)
 
 -- bytes 0-27: type, flags, id, part count
 unfoldable pub fixedFields : ℕ → ℕ → Guid → ℕ → List ℕ
-fixedFields type flags id n = bytesOf 4 packetSignature ++ (bytesOf 2 type ++ (bytesOf 2 flags ++ (wireBytes id ++ bytesOf 4 n)))
+fixedFields type flags id n =
+    bytesOf 4 packetSignature ++ (bytesOf 2 type ++ (bytesOf 2 flags ++ (wireBytes id ++ bytesOf 4 n)))
 
 -- what follows the fixed header
 unfoldable pub body : List Part → List ℕ

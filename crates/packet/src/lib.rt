@@ -1,5 +1,5 @@
-// What a bus packet is: its types, flags and refusals, its layout, and the lent part table with what its entries name in an input
-// or an area. The reader, the writer's checks and the writer rest on it.
+// What a bus packet is: its types, flags and refusals, its layout, and the lent part table with what its entries name
+// in an input or an area. The reader, the writer's checks and the writer rest on it.
 use guid::Guid;
 use words::outcome::NoRoom;
 use words::outcome::Outcome;
@@ -196,7 +196,8 @@ pub fn is_null(offset: u64, length: u64) -> bool
     }
 }
 
-// Whether an entry names a stretch outside an area of `given` bytes. The sum of offset and length is not formed: it may not fit.
+// Whether an entry names a stretch outside an area of `given` bytes. The sum of offset and length is not formed: it may
+// not fit.
 pub fn is_outside(given: u64, offset: u64, length: u64) -> bool
     ensures { λ r. ⌜ TellsOutside given offset length r ⌝ }
 {
@@ -211,7 +212,7 @@ pub fn is_outside(given: u64, offset: u64, length: u64) -> bool
 
 // Part `index` of the input, by the table's entry; the empty stretch at the front where there is none.
 pub fn part<'a>(input: &'a [u8], parts: &[u64], index: usize) -> &'a [u8]
-    ensures { λ r. ⌜ LendsPart (now (input .entry)) (now (parts .entry)) index ((input .entry) .ptr) (now r) (r .ptr) ⌝ }
+    ensures { λ r. ⌜ LendsPart (now (input .entry)) (now (parts .entry)) index (input .entry .ptr) (now r) (r .ptr) ⌝ }
 {
     if parts.len() / ENTRY_WORDS <= index {
         return &input[..0];

@@ -1,5 +1,5 @@
--- Two results that meet a function's statement are equal. The maps to document 01's numbers lose nothing: each has one that
--- undoes it. Assumes nothing.
+-- Two results that meet a function's statement are equal. The maps to document 01's numbers lose nothing: each has one
+-- that undoes it. Assumes nothing.
 use mathlib.Core.Path.{_≡_, refl}
 use mathlib.Core.List.{List}
 use Prim.Native.Nat.{ℕ}

@@ -93,7 +93,8 @@ fn first_too_large(parts: &[u64]) -> usize
     index
 }
 
-// Checks that a packet of these parts can be represented on the wire at all, and that the table names only bytes of the area.
+// Checks that a packet of these parts can be represented on the wire at all, and that the table names only bytes of the
+// area.
 pub fn validate(area: &[u8], parts: &[u64]) -> Validated
     ensures { λ r. ⌜ Validates (now (area .entry)) (now (parts .entry)) r ⌝ }
 {

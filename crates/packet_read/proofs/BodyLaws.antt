@@ -1,4 +1,5 @@
--- The stages put together: what each return of the two top functions has to show, from what the stages told. Assumes nothing.
+-- The stages put together: what each return of the two top functions has to show, from what the stages told. Assumes
+-- nothing.
 use mathlib.Core.Path.{_≡_, refl, sym, _∙_, ap}
 use mathlib.Core.Bool.{Bool, true, false, _||_, true≢false}
 use mathlib.Core.List.{List}

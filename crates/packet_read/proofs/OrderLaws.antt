@@ -1,5 +1,5 @@
--- What the pieces of the reading order answer, line by line: each law takes the facts that a stage of the code has tested.
--- Assumes nothing.
+-- What the pieces of the reading order answer, line by line: each law takes the facts that a stage of the code has
+-- tested. Assumes nothing.
 use mathlib.Core.Path.{_≡_, refl, _∙_, ap}
 use mathlib.Core.Bool.{Bool, true, false}
 use mathlib.Core.List.{List, [], _∷_, _++_}

@@ -1,7 +1,7 @@
--- Reading, from document 01: "Order: under 36 bytes, need-more; 1; 2; 5; 3 if n exceeds the smaller of 2^28 and the ceiling;
--- without a variable header, accept 36 bytes whatever the byte limit; 8 if 44 + 12n exceeds it; need-more; 6; 4 at the first size
--- above 2^30 that is not null; 8 for the whole length; need-more; 7 at the first failing part; 17." Beside each answer stands what it
--- tells a person (document 02, A9). Assumes nothing.
+-- Reading, from document 01: "Order: under 36 bytes, need-more; 1; 2; 5; 3 if n exceeds the smaller of 2^28 and the
+-- ceiling; without a variable header, accept 36 bytes whatever the byte limit; 8 if 44 + 12n exceeds it; need-more; 6;
+-- 4 at the first size above 2^30 that is not null; 8 for the whole length; need-more; 7 at the first failing part; 17."
+-- Beside each answer stands what it tells a person (document 02, A9). Assumes nothing.
 use Prim.Native.Nat.{ℕ, _+_, min}
 use mathlib.Core.Bool.{Bool, not, _&&_}
 use mathlib.Core.List.{List, [], _∷_, _++_}
@@ -58,7 +58,8 @@ module _ (s : List ℕ) where
     -- how many parts there may be, and the packet that has none and no variable header
     unfoldable pub countLines : ℕ → List (Line Told)
     countLines ceiling =
-        min mostParts ceiling <? n ⇒ refuse 3 (n ∷ []) because finds "part-count" countAt n (number (min mostParts ceiling))
+        min mostParts ceiling <? n ⇒ refuse 3 (n ∷ [])
+        because finds "part-count" countAt n (number (min mostParts ceiling))
         ∷ not (hasVariableHeader (type s) n) ⇒ accepted fixedHeaderSize (fields s) because plainly
         ∷ []
 
@@ -80,12 +81,18 @@ module _ (s : List ℕ) where
         ∷ length s <? whole s n ⇒ more because waits "whole" (whole s n)
         ∷ []
 
-    -- the parts
+    -- the parts: the checksum word of the first that fails, and its checksum
+    abbrev failingStored : ℕ
+    failingStored = partSum s n firstFailing
+
+    abbrev failingComputed : ℕ
+    failingComputed = checksum (part s n firstFailing)
+
     unfoldable pub partLines : List (Line Told)
     partLines =
         firstFailing <? n
-        ⇒ refused 7 (firstFailing ∷ partSum s n firstFailing ∷ checksum (part s n firstFailing) ∷ []) (start s n (firstFailing + 1))
-        because finds "part-checksum" (sumPlace n firstFailing) (partSum s n firstFailing) (number (checksum (part s n firstFailing)))
+        ⇒ refused 7 (firstFailing ∷ failingStored ∷ failingComputed ∷ []) (start s n (firstFailing + 1))
+        because finds "part-checksum" (sumPlace n firstFailing) failingStored (number failingComputed)
         ∷ []
 
 -- the lent table

@@ -1,5 +1,6 @@
--- What the private stages of reading hand on; nobody has to believe it. A stage decides some pieces of the reading order: what it
--- refuses is what their lines answer, whatever stands behind them; where it goes on, they are silent. Assumes nothing.
+-- What the private stages of reading hand on; nobody has to believe it. A stage decides some pieces of the reading
+-- order: what it refuses is what their lines answer, whatever stands behind them; where it goes on, they are silent.
+-- Assumes nothing.
 use Prim.Native.Nat.{ℕ, _+_, _*_, _≤_, _<_}
 use mathlib.Core.Bool.{true, false, not, _&&_}
 use mathlib.Core.List.{List}
@@ -45,12 +46,14 @@ Verifies stored bytes (Failed actual) = (fails stored bytes ≡ true) × (actual
 -- the same of a part, whose size word may be the null mark
 abbrev pub PartVerifies : ℕ → ℕ → List ℕ → Verdict → Type 0
 PartVerifies size stored bytes Passed = (not (size =? nullSize) && fails stored bytes) ≡ false
-PartVerifies size stored bytes (Failed actual) = ((not (size =? nullSize) && fails stored bytes) ≡ true) × (actual ≡ checksum bytes)
+PartVerifies size stored bytes (Failed actual) =
+    ((not (size =? nullSize) && fails stored bytes) ≡ true) × (actual ≡ checksum bytes)
 
 abbrev pub FixedStage : List ℕ → Fixed → Type 0
 FixedStage s Fixed.More = Stops (through (fixedLines s)) more
 FixedStage s (Fixed.Refused error) = Stops (through (fixedLines s)) (refusal error 0)
-FixedStage s (Fixed.Header header) = Quiet (through (fixedLines s)) × (fixedHeaderSize ≤ length s) × (fieldsOf header ≡ fields s)
+FixedStage s (Fixed.Header header) =
+    Quiet (through (fixedLines s)) × (fixedHeaderSize ≤ length s) × (fieldsOf header ≡ fields s)
 
 -- the sizes: the first that is too large, or what the parts take together
 abbrev pub SizesStage : List ℕ → ℕ → Sizes → Type 0
@@ -69,7 +72,8 @@ SizedStage s n limit = QuietOr (through (sizeLines s n limit)) s n
 
 -- the variable header, and what is behind its checksum
 abbrev pub VariableStage : List ℕ → ℕ → ℕ → Variable → Type 0
-VariableStage s n limit = QuietOr (λ (rest : Answer). through (variableLines s n limit) (through (sizeLines s n limit) rest)) s n
+VariableStage s n limit =
+    QuietOr (λ (rest : Answer). through (variableLines s n limit) (through (sizeLines s n limit) rest)) s n
 
 abbrev pub PartsStage : List ℕ → ℕ → Parts → Type 0
 PartsStage s n (Failing index expected actual consumed) =
@@ -83,7 +87,8 @@ PartsStage s n Good = firstFailing s n ≡ n
 -- all that is asked of a packet with a variable header, and what the table then holds
 abbrev pub behind : List ℕ → ℕ → ℕ → ℕ → Answer → Answer
 behind s n limit room rest =
-    through (variableLines s n limit) (through (sizeLines s n limit) (through (partLines s n) (through (roomLines n room) rest)))
+    through (variableLines s n limit)
+    (through (sizeLines s n limit) (through (partLines s n) (through (roomLines n room) rest)))
 
 pub record BodyStage (s : List ℕ) (n limit : ℕ) (table : List ℕ) (r : Decoded) (after : List ℕ) : Type 0 where
   pub answer : behind s n limit (room table) (accepted (whole s n) (fields s)) ≡ paper r

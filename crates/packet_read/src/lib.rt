@@ -1,5 +1,6 @@
-// Bus packet framing, the reading side: a packet is a fixed header of 36 bytes, mostly a variable header of part sizes and
-// checksums, and the parts. Everything is a function of lent bytes; the parts are given back as stretches of the input.
+// Bus packet framing, the reading side: a packet is a fixed header of 36 bytes, mostly a variable header of part sizes
+// and checksums, and the parts. Everything is a function of lent bytes; the parts are given back as stretches of the
+// input.
 use guid::Guid;
 use packet::CHECKSUM_BYTES;
 use packet::COUNT_AT;
@@ -283,7 +284,8 @@ fn length_word(size: u32) -> u64
 
 // The table's entries, from its front.
 fn fill(input: &[u8], count: usize, parts: &mut [u64])
-    requires { ⌜ (whole (now input) count ≤ length (now input)) × (count ≤ mostParts) × (entryWords * count ≤ length (now parts)) ⌝ }
+    requires { ⌜ (whole (now input) count ≤ length (now input)) × (count ≤ mostParts)
+        × (entryWords * count ≤ length (now parts)) ⌝ }
     ensures { λ _. ⌜ now (parts .exit) ≡ over (entriesFrom (now (input .entry)) count 0 count) (now (parts .entry)) ⌝ }
 {
     let mut at = (HEADERS_SIZE + PART_HEADER_SIZE * count) as u64;
@@ -363,7 +365,8 @@ pub fn decode_with(
     max_part_count: u32,
     parts: &mut [u64],
 ) -> Decoded
-    ensures { λ r. ⌜ Decodes (now (input .entry)) (limited «max_message_size» «max_part_count» (now (parts .entry))) (now (parts .entry)) r (now (parts .exit)) ⌝ }
+    ensures { λ r. ⌜ Decodes (now (input .entry)) (limited «max_message_size» «max_part_count» (now (parts .entry)))
+        (now (parts .entry)) r (now (parts .exit)) ⌝ }
 {
     let table = crc64::table();
     match fixed_header(&table, input) {
@@ -398,7 +401,8 @@ pub fn decode_with(
 
 // Reads one packet from the front of `input`, of at most 65,536 parts.
 pub fn decode(input: &[u8], max_message_size: u64, parts: &mut [u64]) -> Decoded
-    ensures { λ r. ⌜ Decodes (now (input .entry)) (limited «max_message_size» defaultCeiling (now (parts .entry))) (now (parts .entry)) r (now (parts .exit)) ⌝ }
+    ensures { λ r. ⌜ Decodes (now (input .entry)) (limited «max_message_size» defaultCeiling (now (parts .entry)))
+        (now (parts .entry)) r (now (parts .exit)) ⌝ }
 {
     decode_with(input, max_message_size, DEFAULT_MAX_PART_COUNT, parts)
 }

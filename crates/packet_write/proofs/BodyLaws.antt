@@ -1,4 +1,5 @@
--- What follows the fixed header, piece by piece: the sizes, the part checksums, the checksum of both, the parts. Assumes nothing.
+-- What follows the fixed header, piece by piece: the sizes, the part checksums, the checksum of both, the parts.
+-- Assumes nothing.
 use mathlib.Core.Path.{_≡_, sym, _∙_, ap, subst}
 use mathlib.Core.List.{List, _++_, append-assoc}
 use Prim.Native.Nat.{ℕ, _+_, _*_, _-_, _≤_}

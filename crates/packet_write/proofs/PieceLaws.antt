@@ -1,4 +1,5 @@
--- Laws of a packet's pieces: how many bytes each has, and what the table's entries have to do with the parts. Assumes nothing.
+-- Laws of a packet's pieces: how many bytes each has, and what the table's entries have to do with the parts. Assumes
+-- nothing.
 use mathlib.Core.Path.{_≡_, refl, sym, _∙_}
 use mathlib.Core.Bool.{Bool, true, false}
 use mathlib.Core.List.{List, [], _∷_, _++_}

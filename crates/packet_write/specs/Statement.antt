@@ -18,9 +18,10 @@ use Rattle.packet_write.specs.Writing.{writing}
 abbrev pub bytesFor : PacketType → PacketFlags → Guid → List ℕ → List ℕ → List ℕ
 bytesFor type flags id area table = packetBytes (typeNumber type) (flags .0) id (partsOf area table)
 
--- writing answers r, and the output that held `out` holds `after`: document 01, "Writing fills the output from its front, reports its
--- bytes and leaves the rest."
-pub record Encodes (type : PacketType) (flags : PacketFlags) (id : Guid) (area table out : List ℕ) (r : Encoded) (after : List ℕ) : Type 0 where
+-- writing answers r, and the output that held `out` holds `after`: document 01, "Writing fills the output from its
+-- front, reports its bytes and leaves the rest."
+pub record Encodes (type : PacketType) (flags : PacketFlags) (id : Guid) (area table out : List ℕ) (r : Encoded)
+    (after : List ℕ) : Type 0 where
   pub answer : Means paper (writing (typeNumber type) area table (length out)) r
   pub output : Holds (writing (typeNumber type) area table (length out)) (bytesFor type flags id area table) out after
 

@@ -1,5 +1,5 @@
-// Bus packet framing, the writing side: the parts that a lent table names in a lent area are written to a lent output as one
-// packet. Each writer is lent the part of the output that begins at its own place.
+// Bus packet framing, the writing side: the parts that a lent table names in a lent area are written to a lent output
+// as one packet. Each writer is lent the part of the output that begins at its own place.
 use crc64::Entries;
 use guid::Guid;
 use packet::CHECKSUM_BYTES;
@@ -69,7 +69,8 @@ fn seal(table: &Entries, size: usize, out: &mut [u8])
 
 fn write_fields(packet_type: PacketType, flags: PacketFlags, id: Guid, count: u32, out: &mut [u8])
     requires { ⌜ fixedFieldsSize ≤ length (now out) ⌝ }
-    ensures { λ _. ⌜ now (out .exit) ≡ over (fixedFields (typeNumber «packet_type») (flags .0) id count) (now (out .entry)) ⌝ }
+    ensures { λ _. ⌜ now (out .exit)
+        ≡ over (fixedFields (typeNumber «packet_type») (flags .0) id count) (now (out .entry)) ⌝ }
 {
     write_u32(out, SIGNATURE);
     write_u16(&mut out[TYPE_AT..], type_number(packet_type));
@@ -80,7 +81,8 @@ fn write_fields(packet_type: PacketType, flags: PacketFlags, id: Guid, count: u3
 
 fn write_sizes(parts: &[u64], out: &mut [u8])
     requires { ⌜ (room (now parts) ≤ firstTooLarge (now parts)) × (sizeBytes * room (now parts) ≤ length (now out)) ⌝ }
-    ensures { λ _. ⌜ now (out .exit) ≡ over (entrySizes (now (parts .entry)) 0 (room (now (parts .entry)))) (now (out .entry)) ⌝ }
+    ensures { λ _. ⌜ now (out .exit)
+        ≡ over (entrySizes (now (parts .entry)) 0 (room (now (parts .entry)))) (now (out .entry)) ⌝ }
 {
     let count = parts.len() / ENTRY_WORDS;
     let mut index = 0;
@@ -94,8 +96,10 @@ fn write_sizes(parts: &[u64], out: &mut [u8])
 
 fn write_sums(table: &Entries, area: &[u8], parts: &[u64], out: &mut [u8])
     requires { ⌜ TableIs (now table) ⌝ }
-    requires { ⌜ (room (now parts) ≤ firstOutside (now area) (now parts)) × (checksumBytes * room (now parts) ≤ length (now out)) ⌝ }
-    ensures { λ _. ⌜ now (out .exit) ≡ over (sums (partsOf (now (area .entry)) (now (parts .entry)))) (now (out .entry)) ⌝ }
+    requires { ⌜ (room (now parts) ≤ firstOutside (now area) (now parts))
+        × (checksumBytes * room (now parts) ≤ length (now out)) ⌝ }
+    ensures { λ _. ⌜ now (out .exit)
+        ≡ over (sums (partsOf (now (area .entry)) (now (parts .entry)))) (now (out .entry)) ⌝ }
 {
     let count = parts.len() / ENTRY_WORDS;
     let mut index = 0;
@@ -108,8 +112,10 @@ fn write_sums(table: &Entries, area: &[u8], parts: &[u64], out: &mut [u8])
 }
 
 fn write_contents(area: &[u8], parts: &[u64], out: &mut [u8])
-    requires { ⌜ (room (now parts) ≤ firstOutside (now area) (now parts)) × (length (contents (partsOf (now area) (now parts))) ≤ length (now out)) ⌝ }
-    ensures { λ _. ⌜ now (out .exit) ≡ over (contents (partsOf (now (area .entry)) (now (parts .entry)))) (now (out .entry)) ⌝ }
+    requires { ⌜ (room (now parts) ≤ firstOutside (now area) (now parts))
+        × (length (contents (partsOf (now area) (now parts))) ≤ length (now out)) ⌝ }
+    ensures { λ _. ⌜ now (out .exit)
+        ≡ over (contents (partsOf (now (area .entry)) (now (parts .entry)))) (now (out .entry)) ⌝ }
 {
     let count = parts.len() / ENTRY_WORDS;
     let mut at = 0;
@@ -126,7 +132,8 @@ fn write_contents(area: &[u8], parts: &[u64], out: &mut [u8])
 fn write_body(table: &Entries, area: &[u8], parts: &[u64], out: &mut [u8])
     requires { ⌜ TableIs (now table) ⌝ }
     requires { ⌜ Passes (now area) (now parts) × (length (body (partsOf (now area) (now parts))) ≤ length (now out)) ⌝ }
-    ensures { λ _. ⌜ now (out .exit) ≡ over (body (partsOf (now (area .entry)) (now (parts .entry)))) (now (out .entry)) ⌝ }
+    ensures { λ _. ⌜ now (out .exit)
+        ≡ over (body (partsOf (now (area .entry)) (now (parts .entry)))) (now (out .entry)) ⌝ }
 {
     let count = parts.len() / ENTRY_WORDS;
     write_sizes(parts, out);
@@ -148,7 +155,8 @@ fn write_fixed(
 )
     requires { ⌜ TableIs (now table) ⌝ }
     requires { ⌜ fixedHeaderSize ≤ length (now out) ⌝ }
-    ensures { λ _. ⌜ now (out .exit) ≡ over (sealed (fixedFields (typeNumber «packet_type») (flags .0) id count)) (now (out .entry)) ⌝ }
+    ensures { λ _. ⌜ now (out .exit)
+        ≡ over (sealed (fixedFields (typeNumber «packet_type») (flags .0) id count)) (now (out .entry)) ⌝ }
 {
     write_fields(packet_type, flags, id, count, out);
     seal(table, FIXED_FIELDS_SIZE, out);
@@ -163,8 +171,10 @@ fn write_packet(
     parts: &[u64],
     out: &mut [u8],
 )
-    requires { ⌜ Passes (now area) (now parts) × (length (bytesFor «packet_type» flags id (now area) (now parts)) ≤ length (now out)) ⌝ }
-    ensures { λ _. ⌜ now (out .exit) ≡ over (bytesFor «packet_type» flags id (now (area .entry)) (now (parts .entry))) (now (out .entry)) ⌝ }
+    requires { ⌜ Passes (now area) (now parts)
+        × (length (bytesFor «packet_type» flags id (now area) (now parts)) ≤ length (now out)) ⌝ }
+    ensures { λ _. ⌜ now (out .exit)
+        ≡ over (bytesFor «packet_type» flags id (now (area .entry)) (now (parts .entry))) (now (out .entry)) ⌝ }
 {
     let count = parts.len() / ENTRY_WORDS;
     let table = crc64::table();
@@ -174,7 +184,8 @@ fn write_packet(
     }
 }
 
-// Writes the packet to the front of `out`. Fails on parts that `validate` would reject, so that what this writes, a reader accepts.
+// Writes the packet to the front of `out`. Fails on parts that `validate` would reject, so that what this writes, a
+// reader accepts.
 pub fn encode(
     packet_type: PacketType,
     flags: PacketFlags,
@@ -183,7 +194,8 @@ pub fn encode(
     parts: &[u64],
     out: &mut [u8],
 ) -> Encoded
-    ensures { λ r. ⌜ Encodes «packet_type» flags id (now (area .entry)) (now (parts .entry)) (now (out .entry)) r (now (out .exit)) ⌝ }
+    ensures { λ r. ⌜ Encodes «packet_type» flags id (now (area .entry)) (now (parts .entry)) (now (out .entry))
+        r (now (out .exit)) ⌝ }
 {
     match packet_check::encoded_size(packet_type, area, parts) {
         Measured::Refused(error) => Encoded::Refused(error),

@@ -141,7 +141,7 @@ module _ (s : List ℕ) (limits : Limits) where
         given more = []
         given (refused number values k) = values
 
--- Demand 2, for the reader of packets: it accepts exactly the packets that the layout describes, with the fields that stand in
--- them, and consumes just their bytes.
+-- Demand 2, for the reader of packets: it accepts exactly the packets that the layout describes, with the fields that
+-- stand in them, and consumes just their bytes.
 pub acceptance : Acceptance
 acceptance s limits = (accepts s limits, accepted-is s limits)

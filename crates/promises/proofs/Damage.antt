@@ -1,5 +1,5 @@
--- Demand 3: damage is named. Each stretch rests on the burst law; the lines of the order before it see the same bytes as in the
--- input that was accepted. Assumes nothing.
+-- Demand 3: damage is named. Each stretch rests on the burst law; the lines of the order before it see the same bytes
+-- as in the input that was accepted. Assumes nothing.
 use mathlib.Core.Path.{_≡_, refl, sym, _∙_, ap}
 use mathlib.Core.Bool.{Bool, true, false, not, _&&_, or-true}
 use mathlib.Core.List.{List, [], _∷_}
@@ -219,16 +219,16 @@ not-taken t fixedHeader a named = rw named (by-tests (signature t ≠? packetSig
 not-taken t variableHeader a named = rw named tt
 not-taken t (partAt i) a named = rw named tt
 
--- Damage that is confined to one checksummed stretch whose stored word is not 0, and that changed its checksum, is named, and the
--- lent table is left as it was.
+-- Damage that is confined to one checksummed stretch whose stored word is not 0, and that changed its checksum, is
+-- named, and the lent table is left as it was.
 pub confined-is-named : ConfinedIsNamed
 confined-is-named s t limits table lent packet consumed filled r after part at run taken hit told =
     let named : Names t part (paper r) = rw (told .answer) (reading-names s t limits consumed (fieldsOf packet) part at run (sym (taken .answer)) hit) in
     (named, packet-tables-keep t limits lent r after told .0 (not-taken t part (paper r) named))
 
--- Demand 3: damage is named. An accepted packet, damaged only inside one run of at most eight bytes of one checksummed stretch
--- whose stored word is not 0, is refused by that stretch's checksum (or by 1 or 2, where its signature or type is none any more):
--- an altered term does not pass for another term.
+-- Demand 3: damage is named. An accepted packet, damaged only inside one run of at most eight bytes of one checksummed
+-- stretch whose stored word is not 0, is refused by that stretch's checksum (or by 1 or 2, where its signature or type
+-- is none any more): an altered term does not pass for another term.
 pub damage-is-named : DamageIsNamed
 damage-is-named s t limits table lent packet consumed filled r after part at run taken hit =
     confined-is-named s t limits table lent packet consumed filled r after part at run taken

@@ -87,7 +87,8 @@ module _ (type : PacketType) (flags : PacketFlags) (id : Guid) (area table out :
       ap (take n) (told .output ∙ ap (λ (a : Answer). afterwards a (wire m) out) (sym (told .answer)))
       ∙ take-at (wire m) _ n (length-packet (typeNumber type) (flags .0) id (partsOf area table) ∙ written-size)
 
-  -- where `encode` has answered that it wrote so many bytes, those are read back, with any tail, as the packet that was given
+  -- where `encode` has answered that it wrote so many bytes, those are read back, with any tail, as the packet that was
+  -- given
   pub written-reads : (tail : List ℕ) (limits : Limits) → flags .0 < 2 ^ 16 → Fitting id → Held (given type flags id area table) limits
       → (reading (take n after ++ tail) limits ≡ accepted n (fieldsFor (given type flags id area table)))
       × ((i : ℕ) → i < length (partsOf area table) → ReadsPart (take n after ++ tail) (length (partsOf area table)) i (getD (partsOf area table) i null))

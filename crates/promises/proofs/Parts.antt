@@ -112,8 +112,8 @@ module _ (s table : List ℕ) (n : ℕ) (there : whole s n ≤ length s) (roomy 
         ),
       )
 
--- The lent table of an accepted packet gives back each part: a null one as null, with the empty stretch at the input's front, and
--- any other as the bytes that stand in the input, there.
+-- The lent table of an accepted packet gives back each part: a null one as null, with the empty stretch at the input's
+-- front, and any other as the bytes that stand in the input, there.
 pub parts-are-lent : PartsAreLent
 parts-are-lent s limits table packet consumed after roomy read = (counted, at)
   where

@@ -135,7 +135,8 @@ module _ (m : Message) (limits : Limits) (k : ℕ) (ok : Valid m) (held : Held m
       (λ (short : k < fixedHeaderSize). short-more (take k whole-packet) limits (omega (arith, length-take k whole-packet)))
       (le-or-gt fixedHeaderSize k)
 
--- Each strict prefix of a written packet asks for more, so a packet that arrives in pieces is neither refused nor taken early.
+-- Each strict prefix of a written packet asks for more, so a packet that arrives in pieces is neither refused nor taken
+-- early.
 pub strict-prefix : StrictPrefix
 strict-prefix m limits k ok held h =
     ap (λ (l : List ℕ). reading (take k l) limits) (sym (append-nil (wire m))) ∙ prefix-more m limits k ok held h

@@ -251,8 +251,8 @@ module _ (m : Message) (tail : List ℕ) where
         by-case true e = rw (same-header, e, is-count) (rw e at (is-whole e))
         by-case false e = rw (same-header, e)
 
--- Writing a valid packet and reading it with any tail, under limits and room that hold it, gives back its type, flags, id, nulls
--- and part bytes, and consumes exactly its bytes.
+-- Writing a valid packet and reading it with any tail, under limits and room that hold it, gives back its type, flags,
+-- id, nulls and part bytes, and consumes exactly its bytes.
 pub round-trip : RoundTrip
 round-trip m limits tail ok held = (
   acceptance (wire m ++ tail) limits .0 (acceptable m tail ok limits held)

@@ -1,5 +1,5 @@
--- What the packet reader accepts is exactly this: a front that the layout describes, each checksum word 0 or its stretch's
--- checksum, within the limits and the room. Assumes nothing.
+-- What the packet reader accepts is exactly this: a front that the layout describes, each checksum word 0 or its
+-- stretch's checksum, within the limits and the room. Assumes nothing.
 use Prim.Native.Nat.{ℕ, _≤_, _<_, min}
 use mathlib.Core.Bool.{true}
 use mathlib.Core.List.{List}
@@ -44,7 +44,8 @@ Acceptable s limits =
 abbrev pub consumed : List ℕ → ℕ
 consumed s = pick (hasVariableHeader (type s) (count s)) (whole s (count s)) fixedHeaderSize
 
--- acceptance: the reader accepts exactly what is acceptable, with the fields that stand there, and consumes just the packet
+-- acceptance: the reader accepts exactly what is acceptable, with the fields that stand there, and consumes just the
+-- packet
 abbrev pub Acceptance : Type 0
 Acceptance =
     (s : List ℕ) (limits : Limits)

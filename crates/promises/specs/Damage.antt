@@ -1,6 +1,6 @@
--- Demand 3: damage is named. Take an input that the packet reader accepts. Change it only inside one run of at most eight
--- consecutive bytes that lies wholly in one checksummed stretch whose stored word is not 0. Then the reader refuses it by that
--- stretch's checksum. One statement over the stretch and over the kind of damage: a new refusal of
+-- Demand 3: damage is named. Take an input that the packet reader accepts. Change it only inside one run of at most
+-- eight consecutive bytes that lies wholly in one checksummed stretch whose stored word is not 0. Then the reader
+-- refuses it by that stretch's checksum. One statement over the stretch and over the kind of damage: a new refusal of
 -- the fixed header that comes before 5 is one line of `Names`. Assumes nothing.
 use Prim.Native.Nat.{ℕ, _+_, _*_, _≤_, _<_}
 use mathlib.Core.Bool.{true}
@@ -49,15 +49,17 @@ module _ (s : List ℕ) where
   stored variableHeader = variableSum s (count s)
   stored (partAt i) = partSum s (count s) i
 
-  -- an answer to s names the stretch: by its checksum. Document 01's order looks at the signature and at the type before it
-  -- verifies the fixed header, so where the damage made either of them none at all, 1 or 2 names that.
+  -- an answer to s names the stretch: by its checksum. Document 01's order looks at the signature and at the type
+  -- before it verifies the fixed header, so where the damage made either of them none at all, 1 or 2 names that.
   abbrev pub Names : Stretch → Answer → Type 0
   Names fixedHeader a =
       a
-      ≡ decide (signature s ≠? packetSignature ⇒ refuse 1 (signature s ∷ []) ∷ lastType <? type s ⇒ refuse 2 (type s ∷ []) ∷ [])
+      ≡ decide
+      (signature s ≠? packetSignature ⇒ refuse 1 (signature s ∷ []) ∷ lastType <? type s ⇒ refuse 2 (type s ∷ []) ∷ [])
       (refuse 5 (fixedSum s ∷ checksum (fixedFields s) ∷ []))
   Names variableHeader a = a ≡ refuse 6 (variableSum s (count s) ∷ checksum (variable s (count s)) ∷ [])
-  Names (partAt i) a = a ≡ refused 7 (i ∷ partSum s (count s) i ∷ checksum (part s (count s) i) ∷ []) (start s (count s) (i + 1))
+  Names (partAt i) a =
+      a ≡ refused 7 (i ∷ partSum s (count s) i ∷ checksum (part s (count s) i) ∷ []) (start s (count s) (i + 1))
 
 -- t is s, altered only inside the `run` bytes from `at` on, which lie in one stretch of s
 pub record Inside (s t : List ℕ) (part : Stretch) (at run : ℕ) : Type 0 where
@@ -80,8 +82,8 @@ pub record Hit (s t : List ℕ) (part : Stretch) (at run : ℕ) : Type 0 where
   pub guarded : stored s part ≡ 0 → ⊥
   pub inside : Inside s t part at run
 
--- Of the function, by its own statement `Decodes`: an altered packet, read under the same limits, its table's room among them, is answered by
--- a refusal that names the stretch, and the lent table is left as it was.
+-- Of the function, by its own statement `Decodes`: an altered packet, read under the same limits, its table's room
+-- among them, is answered by a refusal that names the stretch, and the lent table is left as it was.
 abbrev pub NamedWhere : (List ℕ → List ℕ → Stretch → ℕ → ℕ → Type 0) → Type 0
 NamedWhere Altered =
     (s t : List ℕ) (limits : Limits) (table lent : List ℕ) (packet : Packet) (consumed : ℕ) (filled : List ℕ)

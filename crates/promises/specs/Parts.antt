@@ -1,5 +1,5 @@
--- What the reader hands back, part by part: the lent table of an accepted packet names a null part exactly where the packet has one,
--- and `part` lends each part's bytes, where they lie in the input. Assumes nothing.
+-- What the reader hands back, part by part: the lent table of an accepted packet names a null part exactly where the
+-- packet has one, and `part` lends each part's bytes, where they lie in the input. Assumes nothing.
 use Prim.Native.Nat.{ℕ, _+_, _^_, _≤_, _<_}
 use mathlib.Core.Bool.{true, false}
 use mathlib.Core.List.{List, [], _++_}
@@ -51,7 +51,8 @@ PartsAreLent =
 -- "a null part, or an i or entry outside the table or input, gives the empty stretch at the front"
 abbrev pub FrontIsLent : Type 0
 FrontIsLent =
-    (s table : List ℕ) (i : ℕ) → (room table ≤ i) ⊎ ((nullAt table i ≡ true) ⊎ (outsideAt s table i ≡ true)) → LendsFront s table i
+    (s table : List ℕ) (i : ℕ) → (room table ≤ i) ⊎ ((nullAt table i ≡ true) ⊎ (outsideAt s table i ≡ true))
+    → LendsFront s table i
 
 -- what a filled table lends for index i is this part: a null one, or one with these bytes
 abbrev pub Lends : List ℕ → List ℕ → ℕ → Part → Type 0
@@ -59,8 +60,9 @@ Lends s filled i null = (nullAt filled i ≡ true) × LendsFront s filled i
 Lends s filled i (bytes b) =
     (nullAt filled i ≡ false) × ((from : ℕ × ℕ) (r : List ℕ) (at : ℕ × ℕ) → LendsPart s filled i from r at → r ≡ b)
 
--- Writing and reading, of the functions: the bytes that `encode` says it wrote, with any tail, under limits and a table that hold
--- them, are answered by `decode_with` with the packet that was given and just its bytes consumed, and its table lends each part.
+-- Writing and reading, of the functions: the bytes that `encode` says it wrote, with any tail, under limits and a table
+-- that hold them, are answered by `decode_with` with the packet that was given and just its bytes consumed, and its
+-- table lends each part.
 abbrev pub WrittenIsLent : Type 0
 WrittenIsLent =
     (type : PacketType) (flags : PacketFlags) (id : Guid) (area table out : List ℕ) (n : ℕ) (after tail : List ℕ)

@@ -1,5 +1,5 @@
--- The promises with one word changed, each of which is false: a theorem beside it has the witness. So each of those words is needed.
--- Assumes nothing.
+-- The promises with one word changed, each of which is false: a theorem beside it has the witness. So each of those
+-- words is needed. Assumes nothing.
 use Prim.Native.Nat.{ℕ, _+_, _≤_}
 use mathlib.Core.List.{List, [], _∷_, _++_}
 use mathlib.Core.Path.{_≡_}
@@ -66,7 +66,8 @@ AlwaysBy5 =
 -- the whole packet counts as a prefix of itself
 abbrev pub PrefixOrWhole : Type 0
 PrefixOrWhole =
-    (m : Message) (limits : Limits) (k : ℕ) → Valid m → Held m limits → k ≤ wireSize m → reading (take k (wire m)) limits ≡ more
+    (m : Message) (limits : Limits) (k : ℕ) → Valid m → Held m limits → k ≤ wireSize m
+    → reading (take k (wire m)) limits ≡ more
 
 -- a packet is read back under any byte limit
 abbrev pub RoundTripUnderAnyLimit : Type 0
@@ -77,7 +78,8 @@ RoundTripUnderAnyLimit =
 -- the ceiling alone bounds the parts
 abbrev pub CeilingAlone : Type 0
 CeilingAlone =
-    (s : List ℕ) (limits : Limits) → count s ≤ limits .parts → (fields : List ℕ) → reading s limits ≡ refuse 3 fields → ⊥
+    (s : List ℕ) (limits : Limits) → count s ≤ limits .parts
+    → (fields : List ℕ) → reading s limits ≡ refuse 3 fields → ⊥
 
 -- an accepted packet leaves the table as it was
 abbrev pub AcceptanceLeavesTables : Type 0

@@ -1,6 +1,7 @@
--- Writing a packet and reading it: what comes back. Document 01: "Writing a valid packet and reading it with any tail, under
--- limits and room that hold it, gives back its type, flags, id, nulls and part bytes and consumes exactly its bytes; each strict
--- prefix gives need-more." Both sides cite one definition of what a packet is on the wire, `packetBytes`. Assumes nothing.
+-- Writing a packet and reading it: what comes back. Document 01: "Writing a valid packet and reading it with any tail,
+-- under limits and room that hold it, gives back its type, flags, id, nulls and part bytes and consumes exactly its
+-- bytes; each strict prefix gives need-more." Both sides cite one definition of what a packet is on the wire,
+-- `packetBytes`. Assumes nothing.
 use Prim.Native.Nat.{ℕ, _+_, _^_, _≤_, _<_}
 use mathlib.Core.Bool.{true}
 use mathlib.Core.List.{List, [], _∷_, _++_}
@@ -63,7 +64,8 @@ RoundTrip =
 -- each strict prefix asks for more
 abbrev pub StrictPrefix : Type 0
 StrictPrefix =
-    (m : Message) (limits : Limits) (k : ℕ) → Valid m → Held m limits → k < wireSize m → reading (take k (wire m)) limits ≡ more
+    (m : Message) (limits : Limits) (k : ℕ) → Valid m → Held m limits → k < wireSize m
+    → reading (take k (wire m)) limits ≡ more
 
 -- what `encode` is given, as such a packet
 abbrev pub given : PacketType → PacketFlags → Guid → List ℕ → List ℕ → Message

@@ -1,5 +1,5 @@
--- Demand 1, its second sentence: a refusal or need-more changes no lent table or buffer. The statements are those that the
--- contracts of the functions cite by name. Assumes nothing.
+-- Demand 1, its second sentence: a refusal or need-more changes no lent table or buffer. The statements are those that
+-- the contracts of the functions cite by name. Assumes nothing.
 use Prim.Native.Nat.{ℕ, _*_}
 use mathlib.Core.List.{List}
 use mathlib.Core.Path.{_≡_}
@@ -35,7 +35,8 @@ PacketTablesKeep =
 -- the writer of packets
 abbrev pub PacketOutputKeeps : Type 0
 PacketOutputKeeps =
-    (type : PacketType) (flags : PacketFlags) (id : Guid) (area table out : List ℕ) (error : PacketError) (after : List ℕ)
+    (type : PacketType) (flags : PacketFlags) (id : Guid) (area table out : List ℕ)
+    (error : PacketError) (after : List ℕ)
     → Encodes type flags id area table out (packets.Refused error) after → after ≡ out
 
 -- the reader of rowsets, and its two tables

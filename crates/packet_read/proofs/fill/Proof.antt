@@ -1,5 +1,5 @@
--- `fill` meets its contract. The invariant: the next part begins at `at`, and the entries of those before it stand over the table's front.
--- Assumes nothing.
+-- `fill` meets its contract. The invariant: the next part begins at `at`, and the entries of those before it stand over
+-- the table's front. Assumes nothing.
 use mathlib.Core.Path.{_≡_, refl, ap, _∙_}
 use Prim.Native.Nat.{ℕ, _≤_, _-_}
 use native.Mathlib.Omega.{arith}

@@ -1,5 +1,5 @@
--- `encode` meets its contract: what `encoded_size` refuses is refused, what has not the room too, and the rest is written.
--- Assumes nothing.
+-- `encode` meets its contract: what `encoded_size` refuses is refused, what has not the room too, and the rest is
+-- written. Assumes nothing.
 use mathlib.Core.Path.{refl}
 use Rattle.packet.specs.Paper.{typeNumber}
 use Rattle.packet_check.proofs.CheckLaws.{sized}

@@ -1,4 +1,5 @@
--- `write_contents` meets its contract. The invariant: the parts from `index` on are still to be written. Assumes nothing.
+-- `write_contents` meets its contract. The invariant: the parts from `index` on are still to be written. Assumes
+-- nothing.
 use mathlib.Core.Path.{_≡_, sym, _∙_, ap}
 use mathlib.Core.List.{List, _++_}
 use Prim.Native.Nat.{ℕ, _+_, _≤_, _-_}
