@@ -20,7 +20,7 @@ use Rattle.guid.specs.Text.{textOf, printing}
 use Rattle.words.specs.Statement.{Holds}
 use Rattle.packet.specs.declared.Packet.{Packet}
 use Rattle.packet.specs.Paper.{typeNumber, fieldsOf}
-use Rattle.packet.specs.Reading.{entryWords, nullLength}
+use Rattle.packet.specs.Entries.{entryWords, nullLength}
 use Rattle.listing.specs.Text.{line, lengthText, packetLine, partLine, partLines, endLine, moreLine, refusedLine}
 use Rattle.listing.specs.Stages.{placed, Wrote}
 

@@ -1,82 +1,83 @@
 -- Laws of the walk: what an accepted packet is known to be, each answer of a step, and the steps together. Assumes nothing.
 use mathlib.Core.Path.{_≡_, refl, sym, _∙_, ap, subst}
-use mathlib.Core.Bool.{Bool, true, false, not, or-true, true≢false}
+use mathlib.Core.Bool.{Bool, true, false, or-true, true≢false}
 use mathlib.Core.List.{List, [], _∷_, _++_, append-assoc}
 use Prim.Native.Nat.{ℕ, zero, suc, _+_, _*_, _-_, _<_, _≤_, min}
 use native.Mathlib.Omega.{arith}
 use borrow.Author.Tests.{lt-ltb, le-ltb, le-leb, lt-leb, ltb-false}
 use lib.ListN.{length, getD, drop, length-append, length-drop, List·getD-append}
-use Rattle.words.specs.Answer.{Answer, accepted, more, refused, refuse, afterwards}
-use Rattle.words.specs.Buffer.{over, stretch}
-use Rattle.words.specs.Decide.{pick, _<?_, _=?_, _⇒_, decide}
+use Rattle.words.specs.Answer.{Answer, accepted, afterwards}
+use Rattle.words.specs.Buffer.{over}
+use Rattle.words.specs.Decide.{_=?_}
 use Rattle.words.specs.Text.{text}
 use Rattle.words.specs.declared.outcome.Room.the-variants.{Output}
+use Rattle.words.proofs.AnswerLaws.{acceptedCount, acceptedFields}
 use Rattle.words.proofs.LentLaws.{tail, tail-is-drop}
-use Rattle.packet.specs.declared.Decoded.{Decoded}
-use Rattle.packet.specs.declared.Decoded.the-variants.{Read, More, Refused}
 use Rattle.packet.specs.declared.Packet.{Packet}
 use Rattle.packet.specs.declared.PacketError.{PacketError}
-use Rattle.packet.specs.Layout.{mostParts, hasVariableHeader, type, count, fields, whole}
-use Rattle.packet.specs.Reading.{order, reading, entryWords, room, entries}
+use Rattle.packet.specs.Layout.{mostParts, fixedHeaderSize, partHeaderSize, hasVariableHeader, type, count, fields, whole}
+use Rattle.packet.specs.Entries.{entryWords, room, entries}
 use Rattle.packet.specs.Paper.{numberOf, fieldsOf}
-use Rattle.packet.specs.Paper as Packet
-use Rattle.packet.specs.Statement.{Decodes}
-use Rattle.packet.specs.Stages.{linesOf}
-use Rattle.packet.proofs.OrderLaws.{order-split}
-use Rattle.packet.proofs.EntryLaws.{length-entries}
-use Rattle.packet_table.proofs.CheckLaws.{silent, acceptedCount}
+use Rattle.packet_read.specs.declared.Decoded.{Decoded}
+use Rattle.packet_read.specs.declared.Decoded.the-variants.{Read, More, Refused}
+use Rattle.packet_read.specs.Reading.{Limits, limited, reading}
+use Rattle.packet_read.specs.Paper as Read
+use Rattle.packet_read.specs.Statement.{Decodes}
+use Rattle.packet_read.proofs.EntryLaws.{length-entries}
+use Rattle.packet_read.proofs.Lines.{Before, rest, front, reading-is, lines-before, lines-behind, pass-bare, pass-before, pass-behind}
 use Rattle.listing.specs.declared.Listed.the-variants as Listed
 use Rattle.listing.specs.Text.{packetLine, partLines, endLine, moreLine, refusedLine}
-use Rattle.listing.specs.Output.{mostBytes, byteLimit, partCeiling, textRoom, answer, answered, linesThen, linesFrom, output}
+use Rattle.listing.specs.Output.{mostBytes, byteLimit, partCeiling, limits, textRoom, answer, answered, linesThen, linesFrom, output}
 use Rattle.listing.specs.Statement.{Lists}
 use Rattle.listing.specs.Stages.{placed, Wrote, LastLine, PacketLines}
 use Rattle.listing.proofs.TextLaws.{wrote-then, wrote-front, wrote-as, parts-same}
 
-acceptedFields : Answer → List ℕ
-acceptedFields (accepted consumed fields) = fields
-acceptedFields more = []
-acceptedFields (refused number values consumed) = []
-
--- what an accepted packet is known to be: its fields are the input's, its parts few enough, and its bytes there
-pub record Accepts (s : List ℕ) (ceiling consumed : ℕ) (found : List ℕ) : Type 0 where
-  pub read : found ≡ fields s
-  pub few : count s ≤ ceiling
-  pub some : 36 + 12 * count s ≤ consumed
-  pub inside : consumed ≤ length s
-
 -- without a variable header there are no parts
-bare-count : (type n : ℕ) → not (hasVariableHeader type n) ≡ true → n ≡ 0
+bare-count : (type n : ℕ) → hasVariableHeader type n ≡ false → n ≡ 0
 bare-count type zero none = refl
 bare-count type (suc n) none =
-    let some : not (hasVariableHeader type (suc n)) ≡ false = rw (lt-ltb 0 (suc n) (omega arith), or-true (type =? 0)) in
-    absurd (true≢false (sym none ∙ some))
+    let some : hasVariableHeader type (suc n) ≡ true = rw (lt-ltb 0 (suc n) (omega arith), or-true (type =? 0)) in
+    absurd (true≢false (sym some ∙ none))
 
-module _ (s : List ℕ) (limit ceiling room consumed : ℕ) (found : List ℕ) where
-  abbrev body : Answer
-  body = linesOf s (count s) limit ceiling room 6 8 (accepted (whole s (count s)) (fields s))
+-- what an accepted packet is known to be: its fields are the input's, its parts few enough, and its bytes there
+record Accepts (s : List ℕ) (limits : Limits) (consumed : ℕ) (found : List ℕ) : Type 0 where
+  read : found ≡ fields s
+  few : count s ≤ limits .parts
+  some : fixedHeaderSize + partHeaderSize * count s ≤ consumed
+  inside : consumed ≤ length s
 
-  -- with a variable header or without
-  behind-count : 36 ≤ length s → count s ≤ ceiling → (bare : Bool) → not (hasVariableHeader (type s) (count s)) ≡ bare → pick bare (accepted 36 (fields s)) body ≡ accepted consumed found → Accepts s ceiling consumed found
-  unfolding order acceptedFields
-  behind-count long few true none e =
-      let no-parts : count s ≡ 0 = bare-count (type s) (count s) none in
-      record { read = sym (ap acceptedFields e); few = few; some = omega (arith, ap acceptedCount e); inside = omega (arith, ap acceptedCount e) }
-  behind-count long few false none e =
-      let rest = silent (stretch (order s (count s) limit ceiling room) 6 8) (refl, (refl, (refl, (refl, (refl, (refl, (refl, (refl, tt)))))))) e refl in
-      let there = ltb-false (length s) (whole s (count s)) (rest .0 .1 .1 .1 .1 .1 .0) in
-      record { read = sym (ap acceptedFields (rest .1)); few = few; some = omega (arith, ap acceptedCount (rest .1)); inside = omega (arith, ap acceptedCount (rest .1)) }
+module _ (s : List ℕ) (limits : Limits) (consumed : ℕ) (found : List ℕ) (e : reading s limits ≡ accepted consumed found) where
+  abbrev n : ℕ
+  n = count s
 
-  pub accepts : reading s limit ceiling room ≡ accepted consumed found → Accepts s ceiling consumed found
-  unfolding reading order
-  accepts e =
-      let n : ℕ = count s in
-      let split : linesOf s n limit ceiling room 0 4 (linesOf s n limit ceiling room 4 2 body) ≡ accepted consumed found =
-      sym (order-split s n limit ceiling room (accepted (whole s n) (fields s))) ∙ e in
-      let fixed = silent (stretch (order s n limit ceiling room) 0 4) (refl, (refl, (refl, (refl, tt)))) split refl in
-      let counted = silent ((min mostParts ceiling <? n ⇒ refuse 3 (n ∷ [])) ∷ []) {last = decide ((not (hasVariableHeader (type s) n) ⇒ accepted 36 (fields s)) ∷ []) body} (refl, tt) (fixed .1) refl in
-      let long = ltb-false (length s) 36 (fixed .0 .0) in
-      let low = ltb-false (min mostParts ceiling) n (counted .0 .0) in
-      behind-count long (omega arith) (not (hasVariableHeader (type s) n)) refl (counted .1)
+  fronted : front s n limits (rest s n limits) ≡ accepted consumed found
+  fronted = sym (reading-is s n limits refl) ∙ e
+
+  passed : Before s n limits
+  passed = lines-before s n limits (accepted consumed found) refl fronted .0
+
+  accepts-as : (k : ℕ) → fixedHeaderSize + partHeaderSize * n ≤ k → k ≤ length s → accepted k (fields s) ≡ accepted consumed found → Accepts s limits consumed found
+  accepts-as k some inside same =
+      let counted : k ≡ consumed = ap acceptedCount same in
+      record {
+        read = sym (ap acceptedFields same);
+        few = omega (arith, ltb-false (min mostParts (limits .parts)) n (passed .few));
+        some = omega arith;
+        inside = omega arith;
+      }
+
+  by-header : (b : Bool) → hasVariableHeader (type s) n ≡ b → Accepts s limits consumed found
+  by-header true with-header =
+      let behind = lines-behind s n limits (accepted consumed found) refl fronted with-header in
+      accepts-as (whole s n) (omega arith) (ltb-false (length s) (whole s n) (behind .there))
+      (sym (pass-before s n limits passed (rest s n limits) with-header ∙ pass-behind s n limits behind) ∙ fronted)
+  by-header false without =
+      let none : n ≡ 0 = bare-count (type s) n without in
+      accepts-as fixedHeaderSize (omega arith) (ltb-false (length s) fixedHeaderSize (passed .there))
+      (sym (pass-bare s n limits passed (rest s n limits) without) ∙ fronted)
+
+  accepts : Accepts s limits consumed found
+  accepts = by-header (hasVariableHeader (type s) n) refl
 
 -- a text over the front of a buffer that keeps its length fits it
 pub text-fits : {ws xs ys : List ℕ} {r : ℕ} → Wrote ws 0 xs r ys → length ys ≡ length xs → r ≤ length xs
@@ -95,17 +96,18 @@ module _ (s : List ℕ) (offset at : ℕ) (before : List ℕ) where
   module _ (some : offset < length s) (table table′ : List ℕ) (roomy : length table ≡ entryWords * partCeiling) where
     -- the reader's answer
     abbrev Reads : Decoded → Type 0
-    Reads r = Decodes (tail s offset) byteLimit partCeiling table r table′
+    Reads r = Decodes (tail s offset) (limited byteLimit partCeiling table) table r table′
 
-    at-rest : (r : Decoded) → Reads r → Decodes (drop offset s) byteLimit partCeiling table r table′
-    at-rest r d = subst (λ (t : List ℕ). Decodes t byteLimit partCeiling table r table′) (tail-is-drop s offset) d
-
-    answered-so : (r : Decoded) → Reads r → answer s offset ≡ Packet.paper r
-    answered-so r d =
+    at-rest : (r : Decoded) → Reads r → Decodes (drop offset s) limits table r table′
+    at-rest r d =
         let rooms : room table ≡ partCeiling = omega arith in
-        sym (at-rest r d .answer ∙ ap (reading (drop offset s) byteLimit partCeiling) rooms)
+        subst (λ (k : ℕ). Decodes (drop offset s) (record { bytes = byteLimit; parts = partCeiling; room = k }) table r table′) rooms
+        (subst (λ (t : List ℕ). Decodes t (limited byteLimit partCeiling table) table r table′) (tail-is-drop s offset) d)
 
-    lines-so : (r : Decoded) → Reads r → (later : ℕ → List ℕ) → linesThen s offset later ≡ answered s offset later (Packet.paper r)
+    answered-so : (r : Decoded) → Reads r → answer s offset ≡ Read.paper r
+    answered-so r d = sym (at-rest r d .answer)
+
+    lines-so : (r : Decoded) → Reads r → (later : ℕ → List ℕ) → linesThen s offset later ≡ answered s offset later (Read.paper r)
     unfolding linesThen
     lines-so r d later = rw (lt-leb (length s) offset some) (ap (answered s offset later) (answered-so r d))
 
@@ -118,20 +120,22 @@ module _ (s : List ℕ) (offset at : ℕ) (before : List ℕ) where
         record { lines = refusedLine offset number; are = λ later. lines-so (Refused error consumed) d later ∙ ap (refusedLine offset) (sym e); wrote = wrote }
 
     module _ (packet : Packet) (consumed : ℕ) (d : Reads (Read packet consumed)) where
-      abbrev rest : List ℕ
-      rest = drop offset s
+      abbrev left : List ℕ
+      left = drop offset s
 
-      found : Accepts rest partCeiling consumed (fieldsOf packet)
-      found = accepts rest byteLimit partCeiling (room table) consumed (fieldsOf packet) (sym (at-rest (Read packet consumed) d .answer))
+      found : Accepts left limits consumed (fieldsOf packet)
+      found = accepts left limits consumed (fieldsOf packet) (sym (at-rest (Read packet consumed) d .answer))
 
-      counted : packet .parts ≡ count rest
+      counted : packet .parts ≡ count left
       counted = ap (λ (f : List ℕ). getD f 6 0) (found .read)
 
-      filled : table′ ≡ over (entries rest) table
-      filled = at-rest (Read packet consumed) d .tables
+      filled : table′ ≡ over (entries left) table
+      filled =
+          at-rest (Read packet consumed) d .tables
+          ∙ ap (λ (a : Answer). afterwards a (entries left) table) (sym (at-rest (Read packet consumed) d .answer))
 
-      words : length (entries rest) ≡ entryWords * packet .parts
-      words = length-entries rest (count rest) 0 (count rest) ∙ ap (λ (n : ℕ). entryWords * n) (sym counted)
+      words : length (entries left) ≡ entryWords * packet .parts
+      words = length-entries left (count left) 0 (count left) ∙ ap (λ (n : ℕ). entryWords * n) (sym counted)
 
       pub parts-held : entryWords * packet .parts ≤ length table′
       parts-held = omega (arith, words, simp length-append at (ap length filled))
@@ -140,15 +144,15 @@ module _ (s : List ℕ) (offset at : ℕ) (before : List ℕ) where
       pub goes-on : (offset < offset + consumed) × (offset + consumed ≤ length s) × (36 + 12 * packet .parts ≤ consumed)
       goes-on = (omega (arith, found .some), omega (arith, found .inside, length-drop offset s), omega (arith, found .some, counted))
 
-      same-lines : partLines table′ (packet .parts) ≡ partLines (entries rest) (packet .parts)
-      same-lines = parts-same table′ (entries rest) (packet .parts) (λ k below. ap (λ (t : List ℕ). getD t k 0) filled ∙ List·getD-append (entries rest) (drop (length (entries rest)) table) 0 k (omega (arith, words)))
+      same-lines : partLines table′ (packet .parts) ≡ partLines (entries left) (packet .parts)
+      same-lines = parts-same table′ (entries left) (packet .parts) (λ k below. ap (λ (t : List ℕ). getD t k 0) filled ∙ List·getD-append (entries left) (drop (length (entries left)) table) 0 k (omega (arith, words)))
 
       pub packet-listed : {end : ℕ} {after : List ℕ} → at ≤ 5 * offset
           → Wrote (packetLine offset (fieldsOf packet) ++ partLines table′ (packet .parts)) at before end after → end ≤ at + (128 + 47 * packet .parts)
           → PacketLines s offset at before (offset + consumed) end after
       packet-listed early wrote short =
           record {
-            lines = packetLine offset (fieldsOf packet) ++ partLines (entries rest) (packet .parts);
+            lines = packetLine offset (fieldsOf packet) ++ partLines (entries left) (packet .parts);
             are = lines-so (Read packet consumed) d;
             wrote = wrote-as (ap (λ (l : List ℕ). packetLine offset (fieldsOf packet) ++ l) same-lines) wrote;
             behind = goes-on .0;

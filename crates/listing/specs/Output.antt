@@ -9,7 +9,8 @@ use Rattle.words.specs.Answer.{Answer, accepted, more, refused}
 use Rattle.words.specs.Paper.{roomLine}
 use Rattle.words.specs.Text.{text}
 use Rattle.words.specs.declared.outcome.Room.the-variants.{Output}
-use Rattle.packet.specs.Reading.{reading, entries}
+use Rattle.packet_read.specs.Reading.{Limits, reading}
+use Rattle.packet.specs.Entries.{entries}
 use Rattle.listing.specs.Text.{packetLine, partLines, endLine, moreLine, refusedLine}
 
 abbrev pub mostBytes : ℕ
@@ -21,9 +22,13 @@ byteLimit = 65_536
 abbrev pub partCeiling : ℕ
 partCeiling = 2_048
 
--- the reader's answer to the packet at an offset; the part table has room for every part that the ceiling allows
+-- the part table has room for every part that the ceiling allows
+abbrev pub limits : Limits
+limits = record { bytes = byteLimit; parts = partCeiling; room = partCeiling }
+
+-- the reader's answer to the packet at an offset
 abbrev pub answer : List ℕ → ℕ → Answer
-answer s offset = reading (drop offset s) byteLimit partCeiling partCeiling
+answer s offset = reading (drop offset s) limits
 
 -- the lines for the packet at an offset, and then those for what is behind it
 abbrev pub answered : List ℕ → ℕ → (ℕ → List ℕ) → Answer → List ℕ

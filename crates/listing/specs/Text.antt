@@ -9,7 +9,7 @@ use Rattle.words.specs.Text.{text}
 use Rattle.numerals.specs.Statement.{decimal}
 use Rattle.guid.specs.Guid.{guidOf}
 use Rattle.guid.specs.Text.{textOf}
-use Rattle.packet.specs.Reading.{entryWords, nullLength}
+use Rattle.packet.specs.Entries.{entryWords, nullLength}
 
 -- words with a space between, and the line's end
 abbrev pub line : List (List ℕ) → List ℕ

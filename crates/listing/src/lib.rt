@@ -1,9 +1,10 @@
 // What the program `list` prints, whole, as one function of its input: a line for each packet and part, and how the bytes end.
 // The program over it only reads and writes.
-use packet::Decoded;
 use packet::ENTRY_WORDS;
-use packet::PacketError;
-use packet::PacketType;
+use packet::NULL_LENGTH;
+use packet::refused;
+use packet::type_number;
+use packet_read::Decoded;
 use text::put_bytes;
 use text::put_field;
 use text::put_id;
@@ -14,8 +15,8 @@ ghost use mathlib.Core.List.{[], _∷_, _++_};
 ghost use Prim.Native.Nat.{_+_, _*_, _≤_, _<_};
 ghost use lib.ListN.{length};
 ghost use Rattle.words.specs.Buffer.{over};
-ghost use Rattle.packet.specs.Reading.{entryWords};
-ghost use Rattle.packet.specs.Paper.{typeNumber, numberOf, fieldsOf};
+ghost use Rattle.packet.specs.Entries.{entryWords};
+ghost use Rattle.packet.specs.Paper.{fieldsOf};
 ghost use Rattle.listing.specs.Text.{line, lengthText, packetLine, partLine, partLines, endLine, moreLine, refusedLine};
 ghost use Rattle.listing.specs.Output.{mostBytes, partCeiling, textRoom, linesFrom};
 ghost use Rattle.listing.specs.Statement.{Lists};
@@ -48,34 +49,6 @@ enum Stepped {
     Last(usize),
 }
 
-fn type_number(packet_type: PacketType) -> u64
-    ensures { λ r. ⌜ r ≡ typeNumber «packet_type» ⌝ }
-{
-    match packet_type {
-        PacketType::Message => 0,
-        PacketType::Ack => 1,
-        PacketType::SslAck => 2,
-    }
-}
-
-// Document 01's number of a refusal.
-fn number_of(error: PacketError) -> u64
-    ensures { λ r. ⌜ r ≡ numberOf error ⌝ }
-{
-    match error {
-        PacketError::Signature(_) => 1,
-        PacketError::UnknownType(_) => 2,
-        PacketError::TooManyParts { .. } => 3,
-        PacketError::PartTooLarge { .. } => 4,
-        PacketError::FixedHeaderChecksum { .. } => 5,
-        PacketError::VariableHeaderChecksum { .. } => 6,
-        PacketError::PartChecksum { .. } => 7,
-        PacketError::MessageTooLarge { .. } => 8,
-        PacketError::NoRoom { .. } => 17,
-        PacketError::BadTable { .. } => 18,
-    }
-}
-
 fn packet_line(out: &mut [u8], at: usize, offset: usize, packet: packet::Packet) -> usize
     requires { ⌜ at + 128 ≤ length (now out) ⌝ }
     ensures { λ r. ⌜ Wrote (packetLine offset (fieldsOf packet)) at (now (out .entry)) r (now (out .exit)) × (r ≤ at + 128) ⌝ }
@@ -84,7 +57,7 @@ fn packet_line(out: &mut [u8], at: usize, offset: usize, packet: packet::Packet)
     let type_at = put_bytes(out, at, b"packet ");
     let flags_at = put_field(out, type_at, offset as u64, b' ');
     let flags = packet.flags.0 as u64;
-    let id_at = put_field(out, flags_at, type_number(packet_type), b' ');
+    let id_at = put_field(out, flags_at, type_number(packet_type) as u64, b' ');
     let parts_at = put_field(out, id_at, flags, b' ');
     let id = packet.id;
     let count_at = put_id(out, parts_at, id);
@@ -96,7 +69,7 @@ fn put_length(out: &mut [u8], at: usize, size: u64) -> usize
     requires { ⌜ at + 21 ≤ length (now out) ⌝ }
     ensures { λ r. ⌜ Wrote (line (lengthText size ∷ [])) at (now (out .entry)) r (now (out .exit)) × (r ≤ at + 21) ⌝ }
 {
-    if size == 0xffff_ffff_ffff_ffff {
+    if size == NULL_LENGTH {
         return put_bytes(out, at, b"null\n");
     }
     put_field(out, at, size, b'\n')
@@ -173,10 +146,11 @@ fn step(input: &[u8], offset: usize, parts: &mut [u64], out: &mut [u8], at: usiz
     if input.len() <= offset {
         return Stepped::Last(end_line(out, at, offset));
     }
-    match packet::decode_with(&input[offset..], MAX_MESSAGE_SIZE, MAX_PART_COUNT, parts) {
+    match packet_read::decode_with(&input[offset..], MAX_MESSAGE_SIZE, MAX_PART_COUNT, parts) {
         Decoded::More => Stepped::Last(more_line(out, at, offset)),
         Decoded::Refused { error, consumed: _ } => {
-            Stepped::Last(refused_line(out, at, offset, number_of(error)))
+            let outcome = refused(error, 0);
+            Stepped::Last(refused_line(out, at, offset, outcome.number))
         }
         Decoded::Read { packet, consumed } => {
             let end = packet_lines(out, at, offset, packet, parts);

@@ -1,8 +1,4 @@
--- The laws of packets that the proofs of the reading stages cite.
-pub mod ChecksumLaws
-pub mod OrderLaws
-pub mod SizeLaws
-pub mod PartLaws
+-- Laws of the part table, the maps back from document 01's numbers, and one result for each statement.
 pub mod EntryLaws
-pub mod BodyLaws
+pub mod Back
 pub mod Unique

@@ -1,7 +1,7 @@
--- The definitions of packets: the layout, the order of reading, what the enums mean in document 01's numbers, what each
--- function promises, and what the private stages of reading hand on.
+-- What a packet is: the layout that reading looks at, the bytes that writing makes, the lent part table, what the enums
+-- mean in document 01's numbers, and what each function promises.
 pub mod Layout
-pub mod Reading
+pub mod Entries
+pub mod Wire
 pub mod Paper
 pub mod Statement
-pub mod Stages

@@ -1,4 +1,5 @@
--- What follows the fixed header, piece by piece: the sizes, the part checksums, the checksum of both, the parts. Assumes nothing.
+-- What follows the fixed header, piece by piece: the sizes, the part checksums, the checksum of both, the parts.
+-- Assumes nothing.
 use mathlib.Core.Path.{_≡_, sym, _∙_, ap, subst}
 use mathlib.Core.List.{List, _++_, append-assoc}
 use Prim.Native.Nat.{ℕ, _+_, _*_, _-_, _≤_}
@@ -9,11 +10,11 @@ use Rattle.words.specs.Word.{bytesOf}
 use Rattle.words.specs.Buffer.{over}
 use Rattle.words.proofs.WordLaws.{length-bytesOf}
 use Rattle.crc64.specs.Polynomial.{checksum}
-use Rattle.packet.specs.Reading.{room}
-use Rattle.packet_table.specs.Wire.{sizes, sums, contents, sealed, body, partsOf}
-use Rattle.packet_table.specs.Checks.{Passes}
-use Rattle.packet_table.proofs.WireLaws.{length-parts}
-use Rattle.packet_write.specs.Filling.{entrySizes}
+use Rattle.packet.specs.Entries.{room}
+use Rattle.packet.specs.Wire.{sizes, sums, contents, sealed, body, partsOf}
+use Rattle.packet_check.specs.Stages.{Passes}
+use Rattle.packet_check.proofs.WireLaws.{length-parts}
+use Rattle.packet_write.specs.Stages.{entrySizes}
 use Rattle.words.specs.Filling.{Filling}
 use Rattle.packet_write.proofs.FillingLaws.{opens, step, seals, closes, room-left, length-now, mid-room, mid-fits}
 use Rattle.packet_write.proofs.PieceLaws.{length-sizes, length-sums, length-body, sizes-entries}

@@ -11,7 +11,7 @@ use Rattle.words.specs.Buffer.{over}
 use Rattle.words.proofs.WordLaws.{length-bytesOf}
 use Rattle.words.proofs.BufferLaws.{over-tail}
 use Rattle.crc64.specs.Polynomial.{checksum}
-use Rattle.packet_table.specs.Wire.{sealed}
+use Rattle.packet.specs.Wire.{sealed}
 use Rattle.words.specs.Filling.{Filling}
 pub use Rattle.words.proofs.FillingLaws.{begins, opens, ends, room-left, length-now, place, front, mid-room, mid-fits, leaves, step, word-opens, word-step, closes, word-closes}
 

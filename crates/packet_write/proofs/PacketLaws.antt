@@ -7,55 +7,61 @@ use native.Mathlib.Omega.{arith}
 use lib.ListN.{length, length-append}
 use borrow.Author.Tests.{lt-ltb, le-ltb}
 use Rattle.words.specs.Decide.{pick, decide}
-use Rattle.words.specs.Answer.{Answer, accepted, refuse}
+use Rattle.words.specs.Answer.{Answer, accepted, refuse, afterwards}
 use Rattle.words.specs.Buffer.{over}
 use Rattle.words.proofs.DecideLaws.{decide-append}
+use Rattle.guid.specs.declared.Guid.{Guid}
 use Rattle.packet.specs.Layout.{hasVariableHeader}
-use Rattle.packet.specs.Reading.{room}
-use Rattle.packet.specs.Paper.{refusal}
+use Rattle.packet.specs.Entries.{room}
+use Rattle.packet.specs.Paper.{typeNumber, refusal}
+use Rattle.packet.specs.declared.PacketType.{PacketType}
+use Rattle.packet.specs.declared.PacketFlags.{PacketFlags}
+use Rattle.packet_write.specs.declared.Encoded.{Encoded}
+use Rattle.packet_write.specs.Paper.{paper}
+use Rattle.packet_write.specs.Statement.{Encodes, bytesFor}
 use Rattle.packet.specs.declared.PacketError.{PacketError}
-use Rattle.packet_table.specs.Wire.{sealed, fixedFields, body, packetBytes, packetSize, partsOf}
-use Rattle.packet_table.specs.Checks.{checks, sizing}
-use Rattle.packet_table.proofs.WireLaws.{length-parts}
-use Rattle.packet_table.proofs.CheckLaws.{decided, checks-pass, refusal-refuses, sized}
+use Rattle.packet.specs.Wire.{sealed, fixedFields, body, packetBytes, packetSize, partsOf}
+use Rattle.packet_check.specs.Checks.{checks, sizing}
+use Rattle.packet_check.proofs.WireLaws.{length-parts}
+use Rattle.packet_check.proofs.CheckLaws.{decided, checks-pass, sized}
 use Rattle.words.specs.Filling.{Filling}
-use Rattle.packet_write.specs.Writing.{roomCheck, writing}
+use Rattle.packet_write.specs.Writing.{roomLines, writing}
 use Rattle.packet_write.proofs.FillingLaws.{opens}
 use Rattle.packet_write.proofs.PieceLaws.{length-sealed, length-fixed, length-packet}
 
 -- the fixed header first
-module _ (type flags w0 w1 w2 w3 : ℕ) (area table before : List ℕ)
-    (fits : length (packetBytes type flags (w0 ∷ w1 ∷ w2 ∷ w3 ∷ []) (partsOf area table)) ≤ length before) where
+module _ (type flags : ℕ) (id : Guid) (area table before : List ℕ)
+    (fits : length (packetBytes type flags id (partsOf area table)) ≤ length before) where
   -- with the count of the table's entries
   abbrev pub header : List ℕ
-  header = sealed (fixedFields type flags (w0 ∷ w1 ∷ w2 ∷ w3 ∷ []) (room table))
+  header = sealed (fixedFields type flags id (room table))
 
   abbrev pub rest : List ℕ
   rest = pick (hasVariableHeader type (room table)) (body (partsOf area table)) []
 
   pub header-length : length header ≡ 36
-  header-length = length-sealed (fixedFields type flags (w0 ∷ w1 ∷ w2 ∷ w3 ∷ []) (room table)) ∙ ap (λ (n : ℕ). n + 8) (length-fixed type flags w0 w1 w2 w3 (room table))
+  header-length = length-sealed (fixedFields type flags id (room table)) ∙ ap (λ (n : ℕ). n + 8) (length-fixed type flags id (room table))
 
-  pub packet-is : packetBytes type flags (w0 ∷ w1 ∷ w2 ∷ w3 ∷ []) (partsOf area table) ≡ header ++ rest
+  pub packet-is : packetBytes type flags id (partsOf area table) ≡ header ++ rest
   unfolding packetBytes
   packet-is = rw (length-parts table area 0 (room table))
 
   pub header-room : 36 ≤ length before
   header-room =
-      let whole : length (packetBytes type flags (w0 ∷ w1 ∷ w2 ∷ w3 ∷ []) (partsOf area table)) ≡ length header + length rest = ap length packet-is ∙ length-append header rest in
+      let whole : length (packetBytes type flags id (partsOf area table)) ≡ length header + length rest = ap length packet-is ∙ length-append header rest in
       let first : length header ≡ 36 = header-length in
       omega arith
 
   module _ {now : List ℕ} (written : now ≡ over header before) where
-    pub header-all : hasVariableHeader type (room table) ≡ false → now ≡ over (packetBytes type flags (w0 ∷ w1 ∷ w2 ∷ w3 ∷ []) (partsOf area table)) before
+    pub header-all : hasVariableHeader type (room table) ≡ false → now ≡ over (packetBytes type flags id (partsOf area table)) before
     header-all none =
         let same : header ++ rest ≡ header = ap (λ (b : Bool). header ++ pick b (body (partsOf area table)) []) none ∙ append-nil header in
         written ∙ ap (λ (ws : List ℕ). over ws before) (sym same ∙ sym packet-is)
 
-    pub header-first : hasVariableHeader type (room table) ≡ true → Filling (packetBytes type flags (w0 ∷ w1 ∷ w2 ∷ w3 ∷ []) (partsOf area table)) (body (partsOf area table)) before now 36
+    pub header-first : hasVariableHeader type (room table) ≡ true → Filling (packetBytes type flags id (partsOf area table)) (body (partsOf area table)) before now 36
     header-first some =
         let same : header ++ rest ≡ header ++ body (partsOf area table) = ap (λ (b : Bool). header ++ pick b (body (partsOf area table)) []) some in
-        let joined : header ++ body (partsOf area table) ≡ packetBytes type flags (w0 ∷ w1 ∷ w2 ∷ w3 ∷ []) (partsOf area table) = sym same ∙ sym packet-is in
+        let joined : header ++ body (partsOf area table) ≡ packetBytes type flags id (partsOf area table) = sym same ∙ sym packet-is in
         subst (λ (w : List ℕ). Filling w (body (partsOf area table)) before now 36) joined (opens header (body (partsOf area table)) 36 (rw joined fits) header-length written)
 
 -- the answers, from that of `encoded_size`
@@ -65,24 +71,33 @@ module _ (type : ℕ) (area table : List ℕ) (given : ℕ) where
   writing-refuses error e =
       let needed : ℕ = packetSize type (partsOf area table) in
       let last : Answer = accepted needed [] in
-      sym (decide-append (checks area table) (roomCheck needed given) last
-      ∙ decided (checks area table) last (decide (roomCheck needed given) last) refl (sym e) (refusal-refuses error 0))
+      sym (decide-append (checks area table) (roomLines needed given) last
+      ∙ decided (checks area table) last (decide (roomLines needed given) last) refl (sym e) refl)
 
   module _ {needed : ℕ} (e : accepted needed [] ≡ sizing area table type) where
-    writing-room : decide (roomCheck needed given) (accepted needed []) ≡ writing type area table given
+    writing-room : decide (roomLines needed given) (accepted needed []) ≡ writing type area table given
     unfolding writing
     writing-room =
         let found = sized area table type e in
-        sym (decide-append (checks area table) (roomCheck (packetSize type (partsOf area table)) given) (accepted (packetSize type (partsOf area table)) [])
-        ∙ checks-pass area table (found .0) (decide (roomCheck (packetSize type (partsOf area table)) given) (accepted (packetSize type (partsOf area table)) []))
-        ∙ ap (λ (n : ℕ). decide (roomCheck n given) (accepted n [])) (found .1))
+        sym (decide-append (checks area table) (roomLines (packetSize type (partsOf area table)) given) (accepted (packetSize type (partsOf area table)) [])
+        ∙ checks-pass area table (found .0) (decide (roomLines (packetSize type (partsOf area table)) given) (accepted (packetSize type (partsOf area table)) []))
+        ∙ ap (λ (n : ℕ). decide (roomLines n given) (accepted n [])) (found .1))
 
     pub writing-short : given < needed → refuse 17 (4 ∷ needed ∷ given ∷ []) ≡ writing type area table given
+    unfolding roomLines
     writing-short h = rw (lt-ltb given needed h) at writing-room
 
     pub writing-accepts : needed ≤ given → accepted needed [] ≡ writing type area table given
+    unfolding roomLines
     writing-accepts h = rw (le-ltb given needed h) at writing-room
 
     -- so that the packet fits
-    pub packet-fits : (flags w0 w1 w2 w3 : ℕ) → needed ≤ given → length (packetBytes type flags (w0 ∷ w1 ∷ w2 ∷ w3 ∷ []) (partsOf area table)) ≤ given
-    packet-fits flags w0 w1 w2 w3 h = rw (length-packet type flags w0 w1 w2 w3 (partsOf area table) ∙ sized area table type e .1) h
+    pub packet-fits : (flags : ℕ) (id : Guid) → needed ≤ given → length (packetBytes type flags id (partsOf area table)) ≤ given
+    packet-fits flags id h = rw (length-packet type flags id (partsOf area table) ∙ sized area table type e .1) h
+
+-- what the output holds after an answer that is the writing's
+pub encodes : {type : PacketType} {flags : PacketFlags} {id : Guid} {area table out : List ℕ} {r : Encoded} {after : List ℕ}
+    → paper r ≡ writing (typeNumber type) area table (length out) → after ≡ afterwards (paper r) (bytesFor type flags id area table) out
+    → Encodes type flags id area table out r after
+encodes {type} {flags} {id} {area} {table} {out} told holds =
+    record { answer = told; output = holds ∙ ap (λ (a : Answer). afterwards a (bytesFor type flags id area table) out) told }

@@ -1,33 +1,32 @@
--- Laws of a packet's pieces: how many bytes each has, and what the table's entries have to do with the parts. Assumes nothing.
+-- Laws of a packet's pieces: how many bytes each has, and what the table's entries have to do with the parts. Assumes
+-- nothing.
 use mathlib.Core.Path.{_≡_, refl, sym, _∙_}
-use mathlib.Core.Bool.{Bool, true, false, not, _&&_}
+use mathlib.Core.Bool.{Bool, true, false}
 use mathlib.Core.List.{List, [], _∷_, _++_}
 use Prim.Native.Nat.{ℕ, zero, suc, _+_, _*_, _-_, _<_, _≤_}
 use native.Mathlib.Omega.{arith}
 use lib.ListN.{length, drop, length-append, length-drop}
 use lib.Seq.{length-take-le}
-use Rattle.words.specs.Decide.{pick, _<?_}
+use Rattle.words.specs.Decide.{pick}
 use Rattle.words.proofs.DecideLaws.{pick-case}
 use Rattle.words.specs.Word.{bytesOf, Bytes}
 use Rattle.words.proofs.WordLaws.{length-bytesOf}
 use Rattle.crc64.specs.Polynomial.{checksum, fold}
 use Rattle.crc64.proofs.Burst.{bytes-take, bytes-drop}
+use Rattle.guid.specs.declared.Guid.{Guid}
+use Rattle.guid.proofs.WireLaws.{length-wire}
 use Rattle.packet.specs.Layout.{hasVariableHeader, headers}
-use Rattle.packet.specs.Reading.{room}
-use Rattle.packet_table.specs.Entries.{offsetAt, sizeAt, nullAt, outsideAt, stretchAt, lentAt}
-use Rattle.packet_table.specs.Wire.{Part, null, bytes, sizeWord, sumWord, content, sizes, sums, contents, idBytes, sealed, fixedFields, body, packetBytes, packetSize, partAt, partsFrom}
-use Rattle.packet_table.specs.Checks.{firstOutside}
-use Rattle.packet_table.proofs.EntryLaws.{inside, lent-null, lent-inside}
-use Rattle.packet_table.proofs.WireLaws.{inside-at}
-use Rattle.packet_write.specs.Filling.{entrySize, entrySizes}
+use Rattle.packet.specs.Entries.{room}
+use Rattle.packet.specs.Entries.{offsetAt, sizeAt, nullAt, stretchAt, isLent, lentAt}
+use Rattle.packet.specs.Wire.{Part, null, bytes, sizeWord, sumWord, content, sizes, sums, contents, sealed, fixedFields, body, packetBytes, packetSize, partAt, partsFrom}
+use Rattle.packet_check.specs.Checks.{firstOutside}
+use Rattle.packet.proofs.EntryLaws.{inside, none-null, some-inside, lent-none, lent-some}
+use Rattle.packet_check.proofs.WireLaws.{inside-at}
+use Rattle.packet_write.specs.Stages.{entrySize, entrySizes}
 
-pub length-id : (w0 w1 w2 w3 : ℕ) → length (idBytes (w0 ∷ w1 ∷ w2 ∷ w3 ∷ [])) ≡ 16
-unfolding idBytes
-length-id w0 w1 w2 w3 = simp (length-append, length-bytesOf)
-
-pub length-fixed : (type flags w0 w1 w2 w3 n : ℕ) → length (fixedFields type flags (w0 ∷ w1 ∷ w2 ∷ w3 ∷ []) n) ≡ 28
+pub length-fixed : (type flags : ℕ) (id : Guid) (n : ℕ) → length (fixedFields type flags id n) ≡ 28
 unfolding fixedFields
-length-fixed type flags w0 w1 w2 w3 n = simp (length-append, length-bytesOf, length-id w0 w1 w2 w3)
+length-fixed type flags id n = simp (length-append, length-bytesOf, length-wire id)
 
 pub length-sealed : (bs : List ℕ) → length (sealed bs) ≡ length bs + 8
 unfolding sealed
@@ -50,11 +49,11 @@ length-body ps =
     ∙ rw (length-sealed (sizes ps ++ sums ps), length-append (sizes ps) (sums ps), length-sizes ps, length-sums ps) (omega arith)
 
 -- a packet has as many bytes as its size says
-pub length-packet : (type flags w0 w1 w2 w3 : ℕ) (ps : List Part) → length (packetBytes type flags (w0 ∷ w1 ∷ w2 ∷ w3 ∷ []) ps) ≡ packetSize type ps
+pub length-packet : (type flags : ℕ) (id : Guid) (ps : List Part) → length (packetBytes type flags id ps) ≡ packetSize type ps
 unfolding packetBytes packetSize
-length-packet type flags w0 w1 w2 w3 ps =
-    length-append (sealed (fixedFields type flags (w0 ∷ w1 ∷ w2 ∷ w3 ∷ []) (length ps))) (pick (hasVariableHeader type (length ps)) (body ps) [])
-    ∙ rw (length-sealed (fixedFields type flags (w0 ∷ w1 ∷ w2 ∷ w3 ∷ []) (length ps)), length-fixed type flags w0 w1 w2 w3 (length ps)) (go (hasVariableHeader type (length ps)))
+length-packet type flags id ps =
+    length-append (sealed (fixedFields type flags id (length ps))) (pick (hasVariableHeader type (length ps)) (body ps) [])
+    ∙ rw (length-sealed (fixedFields type flags id (length ps)), length-fixed type flags id (length ps)) (go (hasVariableHeader type (length ps)))
   where
     go : (b : Bool) → 36 + length (pick b (body ps) []) ≡ pick b (headers (length ps) + length (contents ps)) 36
     go true = rw (length-body ps) (omega arith)
@@ -94,9 +93,8 @@ sum-content (bytes bs) = refl
 
 -- what is lent of an area of bytes is bytes
 pub bytes-lent : (area table : List ℕ) (i : ℕ) → Bytes area → Bytes (lentAt area table i)
-unfolding lentAt
 bytes-lent area table i small =
-    pick-case (i <? room table && not (nullAt table i) && not (outsideAt area table i)) (stretchAt area table i) [] (λ (s : List ℕ). Bytes s)
+    pick-case (isLent area table i) (stretchAt area table i) [] (λ (s : List ℕ). Bytes s)
     (λ e. bytes-take (sizeAt table i) (drop (offsetAt table i) area) (bytes-drop (offsetAt table i) area small))
     (λ e j. omega arith)
 
@@ -106,8 +104,8 @@ module _ (area table : List ℕ) (within : room table ≤ firstOutside area tabl
   lent-content i h = go (nullAt table i) refl
     where
       go : (b : Bool) → nullAt table i ≡ b → lentAt area table i ≡ content (partAt area table i)
-      go true e = rw e (sym (lent-null area table i h e))
-      go false e = rw e (sym (lent-inside area table i h e (inside-at table area i h within)))
+      go true e = rw e (sym (lent-none area table i (none-null area table i e)))
+      go false e = rw e (sym (lent-some area table i (some-inside area table i h e (inside-at table area i h within))))
 
   size-entry : (i : ℕ) → i < room table → sizeWord (partAt area table i) ≡ entrySize (offsetAt table i) (sizeAt table i)
   size-entry i h = go (nullAt table i) refl

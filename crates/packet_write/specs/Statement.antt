@@ -1,24 +1,30 @@
--- What `encode` promises. A lent area or table is read, and left as it was. Assumes nothing.
+-- What each public function promises, by name. A lent area or table is read, and left as it was. Assumes nothing.
 use Prim.Native.Nat.{ℕ}
 use mathlib.Core.List.{List}
-use mathlib.Core.Path.{_≡_}
 use lib.ListN.{length}
-use Rattle.words.specs.Answer.{afterwards}
+use Rattle.words.specs.Statement.{Means, Holds}
+use Rattle.words.specs.Paper.{Tells}
+use Rattle.words.specs.declared.outcome.Outcome.{Outcome}
 use Rattle.guid.specs.declared.Guid.{Guid}
 use Rattle.packet.specs.declared.PacketType.{PacketType}
 use Rattle.packet.specs.declared.PacketFlags.{PacketFlags}
 use Rattle.packet.specs.Paper.{typeNumber}
-use Rattle.packet_table.specs.Wire.{packetBytes, partsOf}
+use Rattle.packet.specs.Wire.{packetBytes, partsOf}
 use Rattle.packet_write.specs.declared.Encoded.{Encoded}
-use Rattle.packet_write.specs.Paper.{paper, idWords}
+use Rattle.packet_write.specs.Paper.{paper}
 use Rattle.packet_write.specs.Writing.{writing}
 
 -- the bytes of a packet with the parts that a table names in an area
 abbrev pub bytesFor : PacketType → PacketFlags → Guid → List ℕ → List ℕ → List ℕ
-bytesFor type flags id area table = packetBytes (typeNumber type) (flags .0) (idWords id) (partsOf area table)
+bytesFor type flags id area table = packetBytes (typeNumber type) (flags .0) id (partsOf area table)
 
--- writing answers r, and the output that held `out` holds `after`: document 01, "Writing fills the output from its front, reports its
--- bytes and leaves the rest."
-pub record Encodes (type : PacketType) (flags : PacketFlags) (id : Guid) (area table out : List ℕ) (r : Encoded) (after : List ℕ) : Type 0 where
-  pub answer : paper r ≡ writing (typeNumber type) area table (length out)
-  pub output : after ≡ afterwards (paper r) (bytesFor type flags id area table) out
+-- writing answers r, and the output that held `out` holds `after`: document 01, "Writing fills the output from its
+-- front, reports its bytes and leaves the rest."
+pub record Encodes (type : PacketType) (flags : PacketFlags) (id : Guid) (area table out : List ℕ) (r : Encoded)
+    (after : List ℕ) : Type 0 where
+  pub answer : Means paper (writing (typeNumber type) area table (length out)) r
+  pub output : Holds (writing (typeNumber type) area table (length out)) (bytesFor type flags id area table) out after
+
+-- the answer in words
+abbrev pub TellsEncoded : Encoded → Outcome → Type 0
+TellsEncoded answer r = Tells (paper answer) r

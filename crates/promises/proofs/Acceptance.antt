@@ -7,15 +7,16 @@ use Prim.Native.Nat.{ℕ, _<_, min}
 use native.Mathlib.Omega.{arith}
 use native.Mathlib.Nat.{zero-add}
 use borrow.Author.Tests.{ltb-false, le-ltb, eq-eqb, eqb-true, not-false}
-use lib.ListN.{length, take}
+use lib.ListN.{length}
 use Rattle.words.specs.Answer.{Answer, accepted, more, refused}
-use Rattle.words.specs.Decide.{pick, _=?_, _≠?_, _<?_, decide, first}
+use Rattle.words.specs.Decide.{pick, _=?_, _≠?_, _<?_, first}
 use Rattle.words.proofs.DecideLaws.{first-none, first-all}
 use Rattle.crc64.specs.Polynomial.{checksum}
-use Rattle.packet.specs.Layout.{packetSignature, nullSize, largestPart, mostParts, hasVariableHeader, headers, signature, type, count, fixedSum, fields, size, partSum, variable, variableSum, whole, part}
-use Rattle.packet.specs.Reading.{fails, isNull, tooLarge, partFails, order, reading}
+use Rattle.packet.specs.Layout.{packetSignature, nullSize, largestPart, mostParts, lastType, fixedHeaderSize, hasVariableHeader, headers, signature, type, count, fixedSum, fixedFields, fields, size, partSum, variable, variableSum, whole, part}
+use Rattle.packet_read.specs.Reading.{Limits, fails, tooLarge, partFails, reading}
+use Rattle.packet.specs.Layout.{isNull}
 use Rattle.promises.specs.Acceptance.{Guards, FixedHeader, VariableHeader, Acceptable, consumed, Acceptance}
-use Rattle.promises.proofs.Lines.{Before, Behind, lines-before, lines-behind, pass-bare, pass-all}
+use Rattle.promises.proofs.Lines.{Before, Behind, rest, reading-is, lines-before, lines-behind, pass-bare, pass-before, pass-behind}
 
 -- a word guards its stretch exactly where the stretch does not fail it
 pub guards : (stored : ℕ) (bytes : List ℕ) → fails stored bytes ≡ false → Guards stored bytes
@@ -57,91 +58,90 @@ module _ (s : List ℕ) (n : ℕ) where
 same-word : (a b : ℕ) → (a ≠? b) ≡ false → a ≡ b
 same-word a b e = eqb-true a b (not-false (a =? b) e)
 
-module _ (s : List ℕ) (limit ceiling room : ℕ) where
-  fixed-of : Before s (count s) ceiling → FixedHeader s ceiling
+module _ (s : List ℕ) (limits : Limits) where
+  fixed-of : Before s (count s) limits → FixedHeader s limits
   fixed-of b =
       record {
-        there = ltb-false (length s) 36 (b .there);
+        there = ltb-false (length s) fixedHeaderSize (b .there);
         signed = same-word (signature s) packetSignature (b .signed);
-        known = ltb-false 2 (type s) (b .known);
-        guarded = guards (fixedSum s) (take 28 s) (b .guarded);
-        few = ltb-false (min mostParts ceiling) (count s) (b .few);
+        known = ltb-false lastType (type s) (b .known);
+        guarded = guards (fixedSum s) (fixedFields s) (b .guarded);
+        few = ltb-false (min mostParts (limits .parts)) (count s) (b .few);
       }
 
-  variable-of : (n : ℕ) → Behind s n limit room → VariableHeader s n limit room
+  variable-of : (n : ℕ) → Behind s n limits → VariableHeader s n limits
   variable-of n b =
       record {
-        short = ltb-false limit (headers n) (b .short);
+        short = ltb-false (limits .bytes) (headers n) (b .short);
         headers-there = ltb-false (length s) (headers n) (b .headers-there);
         guarded = guards (variableSum s n) (variable s n) (b .guarded);
         sizes = λ i h some. ltb-false largestPart (size s i) (present (isNull s i) (largestPart <? size s i) (not-null s n i some) (none-of s n (tooLarge s) (b .sizes) i h));
-        within = ltb-false limit (whole s n) (b .within);
+        within = ltb-false (limits .bytes) (whole s n) (b .within);
         there = ltb-false (length s) (whole s n) (b .there);
         parts = λ i h some. guards (partSum s n i) (part s n i) (present (isNull s i) (fails (partSum s n i) (part s n i)) (not-null s n i some) (none-of s n (partFails s n) (b .parts) i h));
-        roomy = ltb-false room n (b .roomy);
+        roomy = ltb-false (limits .room) n (b .roomy);
       }
 
-  pub before-of : FixedHeader s ceiling → Before s (count s) ceiling
+  pub before-of : FixedHeader s limits → Before s (count s) limits
   before-of f =
       record {
-        there = le-ltb (length s) 36 (f .there);
+        there = le-ltb (length s) fixedHeaderSize (f .there);
         signed = ap not (eq-eqb (signature s) packetSignature (f .signed));
-        known = le-ltb 2 (type s) (f .known);
-        guarded = unfailed (fixedSum s) (take 28 s) (f .guarded);
-        few = le-ltb (min mostParts ceiling) (count s) (f .few);
+        known = le-ltb lastType (type s) (f .known);
+        guarded = unfailed (fixedSum s) (fixedFields s) (f .guarded);
+        few = le-ltb (min mostParts (limits .parts)) (count s) (f .few);
       }
 
-  pub behind-of : (n : ℕ) → VariableHeader s n limit room → Behind s n limit room
+  pub behind-of : (n : ℕ) → VariableHeader s n limits → Behind s n limits
   behind-of n v =
       record {
-        short = le-ltb limit (headers n) (v .short);
+        short = le-ltb (limits .bytes) (headers n) (v .short);
         headers-there = le-ltb (length s) (headers n) (v .headers-there);
         guarded = unfailed (variableSum s n) (variable s n) (v .guarded);
         sizes = never s n (tooLarge s) (λ i h. absent (isNull s i) (largestPart <? size s i) (λ some. le-ltb largestPart (size s i) (v .sizes i h (is-some s n i some))));
-        within = le-ltb limit (whole s n) (v .within);
+        within = le-ltb (limits .bytes) (whole s n) (v .within);
         there = le-ltb (length s) (whole s n) (v .there);
         parts = never s n (partFails s n) (λ i h. absent (isNull s i) (fails (partSum s n i) (part s n i)) (λ some. unfailed (partSum s n i) (part s n i) (v .parts i h (is-some s n i some))));
-        roomy = le-ltb room n (v .roomy);
+        roomy = le-ltb (limits .room) n (v .roomy);
       }
 
-  abbrev end : Answer
-  end = accepted (whole s (count s)) (fields s)
-
-  accepts : Acceptable s limit ceiling room → reading s limit ceiling room ≡ accepted (consumed s) (fields s)
-  unfolding reading
+  accepts : Acceptable s limits → reading s limits ≡ accepted (consumed s) (fields s)
   accepts ok = by-header (hasVariableHeader (type s) (count s)) refl
     where
-      by-header : (b : Bool) → hasVariableHeader (type s) (count s) ≡ b → decide (order s (count s) limit ceiling room) end ≡ accepted (pick b (whole s (count s)) 36) (fields s)
-      by-header true e = pass-all s (count s) limit ceiling room end (before-of (ok .0)) e (behind-of (count s) (ok .1 e))
-      by-header false e = pass-bare s (count s) limit ceiling room end (before-of (ok .0)) e
+      by-header : (b : Bool) → hasVariableHeader (type s) (count s) ≡ b → reading s limits ≡ accepted (pick b (whole s (count s)) fixedHeaderSize) (fields s)
+      by-header true e =
+          reading-is s (count s) limits refl ∙ pass-before s (count s) limits (before-of (ok .0)) (rest s (count s) limits) e
+          ∙ pass-behind s (count s) limits (behind-of (count s) (ok .1 e))
+      by-header false e = reading-is s (count s) limits refl ∙ pass-bare s (count s) limits (before-of (ok .0)) (rest s (count s) limits) e
 
-  accepted-is : (n : ℕ) (f : List ℕ) → reading s limit ceiling room ≡ accepted n f → Acceptable s limit ceiling room × (n ≡ consumed s) × (f ≡ fields s)
-  unfolding reading
-  accepted-is n f e = (ok, ap counted same, ap given same)
-    where
-      before : Before s (count s) ceiling
-      before = lines-before s (count s) limit ceiling room end (accepted n f) refl e .0
+  -- what an accepted answer says of the lines
+  module _ (n : ℕ) (f : List ℕ) (e : reading s limits ≡ accepted n f) where
+    pub passed-before : Before s (count s) limits
+    passed-before = lines-before s (count s) limits (accepted n f) refl (sym (reading-is s (count s) limits refl) ∙ e) .0
 
-      behind : hasVariableHeader (type s) (count s) ≡ true → Behind s (count s) limit room
-      behind h = lines-behind s (count s) limit ceiling room end (accepted n f) refl e h .0
+    pub passed-behind : hasVariableHeader (type s) (count s) ≡ true → Behind s (count s) limits
+    passed-behind = lines-behind s (count s) limits (accepted n f) refl (sym (reading-is s (count s) limits refl) ∙ e)
 
-      ok : Acceptable s limit ceiling room
-      ok = (fixed-of before, (λ h. variable-of (count s) (behind h)))
+    accepted-is : Acceptable s limits × (n ≡ consumed s) × (f ≡ fields s)
+    accepted-is = (ok, ap counted same, ap given same)
+      where
+        ok : Acceptable s limits
+        ok = (fixed-of passed-before, (λ h. variable-of (count s) (passed-behind h)))
 
-      same : accepted n f ≡ accepted (consumed s) (fields s)
-      same = sym e ∙ accepts ok
+        same : accepted n f ≡ accepted (consumed s) (fields s)
+        same = sym e ∙ accepts ok
 
-      counted : Answer → ℕ
-      counted (accepted k g) = k
-      counted more = 0
-      counted (refused number values k) = k
+        counted : Answer → ℕ
+        counted (accepted k g) = k
+        counted more = 0
+        counted (refused number values k) = k
 
-      given : Answer → List ℕ
-      given (accepted k g) = g
-      given more = []
-      given (refused number values k) = values
+        given : Answer → List ℕ
+        given (accepted k g) = g
+        given more = []
+        given (refused number values k) = values
 
--- Demand 2, for the reader of packets: it accepts exactly the packets that the layout describes, with the fields that stand in
--- them, and consumes just their bytes.
+-- Demand 2, for the reader of packets: it accepts exactly the packets that the layout describes, with the fields that
+-- stand in them, and consumes just their bytes.
 pub acceptance : Acceptance
-acceptance s limit ceiling room = (accepts s limit ceiling room, accepted-is s limit ceiling room)
+acceptance s limits = (accepts s limits, accepted-is s limits)

@@ -1,5 +1,5 @@
--- Demand 3: damage is named. Each stretch rests on the burst law; the lines of the order before it see the same bytes as in the
--- input that was accepted. Assumes nothing.
+-- Demand 3: damage is named. Each stretch rests on the burst law; the lines of the order before it see the same bytes
+-- as in the input that was accepted. Assumes nothing.
 use mathlib.Core.Path.{_≡_, refl, sym, _∙_, ap}
 use mathlib.Core.Bool.{Bool, true, false, not, _&&_, or-true}
 use mathlib.Core.List.{List, [], _∷_}
@@ -9,22 +9,23 @@ use native.Mathlib.Nat.{zero-add}
 use native.Mathlib.Omega.{arith}
 use borrow.Author.Tests.{lt-ltb, ne-eqb}
 use lib.ListN.{length, take, drop}
-use Rattle.words.specs.Word.{word, Bytes}
+use Rattle.words.specs.Word.{word}
 use Rattle.words.specs.Answer.{Answer, accepted, refuse, NotTaken}
 use Rattle.words.specs.Buffer.{stretch}
 use Rattle.words.specs.Decide.{pick, _=?_, _≠?_, _<?_, decide}
 use Rattle.words.proofs.DecideLaws.{first-at, first-same}
 use Rattle.crc64.specs.Polynomial.{checksum}
 use Rattle.crc64.specs.Damage.{Damaged}
-use Rattle.packet.specs.Layout.{packetSignature, nullSize, largestPart, hasVariableHeader, headers, signature, type, count, fixedSum, fields, size, taken, takenBefore, partSum, variable, variableSum, start, whole, part}
-use Rattle.packet.specs.Paper.{paper, fieldsOf}
+use Rattle.packet.specs.Layout.{packetSignature, nullSize, largestPart, lastType, fixedFieldsSize, fixedHeaderSize, hasVariableHeader, headers, signature, type, count, fixedSum, fixedFields, size, isNull, taken, takenBefore, partSum, variable, variableSum, start, whole, part}
+use Rattle.packet_read.specs.Paper.{paper}
+use Rattle.packet.specs.Paper.{fieldsOf}
 use Rattle.promises.proofs.TablesKeep.{packet-tables-keep}
-use Rattle.packet.specs.Reading.{room, fails, isNull, tooLarge, partFails, firstTooLarge, firstFailing, order, reading}
-use Rattle.packet.proofs.SizeLaws.{taken-below}
-use Rattle.promises.specs.Damage.{Stretch, fixedHeader, variableHeader, partAt, Names, DamageIsNamed, DecodeNamesDamage}
+use Rattle.packet_read.specs.Reading.{Limits, fails, tooLarge, partFails, firstTooLarge, firstFailing, fixedLines, variableLines, sizeLines, partLines, reading}
+use Rattle.packet_read.proofs.SizeLaws.{taken-below}
+use Rattle.promises.specs.Damage.{Stretch, fixedHeader, variableHeader, partAt, from, long, Names, Confined, ConfinedIsNamed, DamageIsNamed}
 use Rattle.promises.proofs.Agreement.{same-word, same-stretch, other-checksum}
-use Rattle.promises.proofs.Acceptance.{guards, present, none-of, not-null}
-use Rattle.promises.proofs.Lines.{Before, Behind, lines-before, lines-behind, pass-before}
+use Rattle.promises.proofs.Acceptance.{guards, present, none-of, not-null, passed-before, passed-behind}
+use Rattle.promises.proofs.Lines.{Before, Behind, front, rest, reading-is, pass-before}
 
 -- a word that guarded one stretch fails another of another checksum
 broken : (word : ℕ) (a b : List ℕ) → (word ≡ 0 → ⊥) → fails word a ≡ false → (checksum a ≡ checksum b → ⊥) → fails word b ≡ true
@@ -33,29 +34,33 @@ broken word a b kept passed other =
     (λ (same : word ≡ checksum a). rw (ne-eqb word 0 kept, ne-eqb word (checksum b) (λ e. other (sym same ∙ e))))
     (guards word a passed)
 
-module _ (s t : List ℕ) (limit ceiling room : ℕ) {at run : ℕ} (bytes-s : Bytes s) (bytes-t : Bytes t) (few : run ≤ 8) (damaged : Damaged at run s t) where
-  module _ (before : Before s (count s) ceiling) where
+module _ (s t : List ℕ) (limits : Limits) {at run : ℕ} (damaged : Damaged at run s t) where
+  -- a stretch that holds the run has another checksum
+  abbrev Changed : ℕ → ℕ → Type 0
+  Changed from long = checksum (stretch s from long) ≡ checksum (stretch t from long) → ⊥
+
+  module _ (before : Before s (count s) limits) where
     -- bytes 0 to 27
-    fixed-named : (fixedSum s ≡ 0 → ⊥) → at + run ≤ 28 → Names t fixedHeader (reading t limit ceiling room)
-    unfolding reading order
-    fixed-named kept high = by-signature (signature t ≠? packetSignature) refl
+    fixed-named : (fixedSum s ≡ 0 → ⊥) → at + run ≤ fixedFieldsSize → Changed 0 fixedFieldsSize → Names t fixedHeader (reading t limits)
+    unfolding fixedLines
+    fixed-named kept high changed = reading-is t (count t) limits refl ∙ by-signature (signature t ≠? packetSignature) refl
       where
-        long-enough : (length t <? 36) ≡ false
+        long-enough : (length t <? fixedHeaderSize) ≡ false
         long-enough = rw (← damaged .same-length) (before .there)
 
         word-is : fixedSum s ≡ fixedSum t
-        word-is = same-word damaged 8 28 (inr high)
+        word-is = same-word damaged 8 fixedFieldsSize (inr high)
 
-        failed : fails (fixedSum t) (take 28 t) ≡ true
-        failed = rw (← word-is) (broken (fixedSum s) (take 28 s) (take 28 t) kept (before .guarded) (other-checksum damaged 0 28 (omega arith) (omega arith) few bytes-s bytes-t))
+        failed : fails (fixedSum t) (fixedFields t) ≡ true
+        failed = rw (← word-is) (broken (fixedSum s) (fixedFields s) (fixedFields t) kept (before .guarded) changed)
 
-        by-type : (b : Bool) → (signature t ≠? packetSignature) ≡ false → (2 <? type t) ≡ b → Names t fixedHeader (decide (order t (count t) limit ceiling room) (accepted (whole t (count t)) (fields t)))
+        by-type : (b : Bool) → (signature t ≠? packetSignature) ≡ false → (lastType <? type t) ≡ b → Names t fixedHeader (front t (count t) limits (rest t (count t) limits))
         by-type true e₁ e₂ = rw (long-enough, e₁, e₂)
         by-type false e₁ e₂ = rw (long-enough, e₁, e₂, failed)
 
-        by-signature : (b : Bool) → (signature t ≠? packetSignature) ≡ b → Names t fixedHeader (decide (order t (count t) limit ceiling room) (accepted (whole t (count t)) (fields t)))
+        by-signature : (b : Bool) → (signature t ≠? packetSignature) ≡ b → Names t fixedHeader (front t (count t) limits (rest t (count t) limits))
         by-signature true e = rw (long-enough, e)
-        by-signature false e = by-type (2 <? type t) e refl
+        by-signature false e = by-type (lastType <? type t) e refl
 
     -- where the run lies behind the fixed header, that header is read as before
     module _ (behind-fixed : 36 ≤ at) where
@@ -65,7 +70,7 @@ module _ (s t : List ℕ) (limit ceiling room : ℕ) {at run : ℕ} (bytes-s : B
       same-type : type s ≡ type t
       same-type = same-word damaged 2 4 (inl (omega arith))
 
-      before-too : Before t (count s) ceiling
+      before-too : Before t (count s) limits
       before-too =
           record {
             there = rw (← damaged .same-length) (before .there);
@@ -75,36 +80,30 @@ module _ (s t : List ℕ) (limit ceiling room : ℕ) {at run : ℕ} (bytes-s : B
             few = before .few;
           }
 
-      module _ (with-header : hasVariableHeader (type s) (count s) ≡ true) (behind : Behind s (count s) limit room) where
+      module _ (with-header : hasVariableHeader (type s) (count s) ≡ true) (behind : Behind s (count s) limits) where
         abbrev n : ℕ
         n = count s
-
-        abbrev end : Answer
-        end = accepted (whole t n) (fields t)
 
         header-too : hasVariableHeader (type t) n ≡ true
         header-too = rw (← same-type) with-header
 
         -- the reader's answer to t, past the fixed header
-        answer-is : reading t limit ceiling room ≡ decide (drop 6 (order t n limit ceiling room)) end
-        unfolding reading
-        answer-is =
-            ap (λ (k : ℕ). decide (order t k limit ceiling room) (accepted (whole t k) (fields t))) (sym same-count)
-            ∙ pass-before t n limit ceiling room end before-too header-too
+        answer-is : reading t limits ≡ rest t n limits
+        answer-is = reading-is t n limits (sym same-count) ∙ pass-before t n limits before-too (rest t n limits) header-too
 
         length-too : (m : ℕ) → (length s <? m) ≡ false → (length t <? m) ≡ false
         length-too m e = rw (← damaged .same-length) e
 
         -- bytes 36 to 36 + 12n
-        variable-named : (variableSum s n ≡ 0 → ⊥) → at + run ≤ 36 + 12 * n → Names t variableHeader (reading t limit ceiling room)
-        unfolding order
-        variable-named kept high = rw (← same-count) (answer-is ∙ rw (behind .short, length-too (headers n) (behind .headers-there), failed))
+        variable-named : (variableSum s n ≡ 0 → ⊥) → at + run ≤ 36 + 12 * n → Changed 36 (12 * n) → Names t variableHeader (reading t limits)
+        unfolding variableLines
+        variable-named kept high changed = rw (← same-count) (answer-is ∙ rw (behind .short, length-too (headers n) (behind .headers-there), failed))
           where
             word-is : variableSum s n ≡ variableSum t n
             word-is = same-word damaged 8 (36 + 12 * n) (inr high)
 
             failed : fails (variableSum t n) (variable t n) ≡ true
-            failed = rw (← word-is) (broken (variableSum s n) (variable s n) (variable t n) kept (behind .guarded) (other-checksum damaged 36 (12 * n) behind-fixed high few bytes-s bytes-t))
+            failed = rw (← word-is) (broken (variableSum s n) (variable s n) (variable t n) kept (behind .guarded) changed)
 
         -- where it lies behind the variable header, that is read as before too
         module _ (behind-headers : headers n ≤ at) where
@@ -123,7 +122,7 @@ module _ (s t : List ℕ) (limit ceiling room : ℕ) {at run : ℕ} (bytes-s : B
           same-large = first-same (tooLarge s) (tooLarge t) 0 n (λ k low high. ap (λ (w : ℕ). not (w =? nullSize) && largestPart <? w) (same-size k (omega (arith, zero-add n))))
 
           module _ (i : ℕ) (below : i < n) (some : size s i ≡ nullSize → ⊥) (kept : partSum s n i ≡ 0 → ⊥)
-              (low : start s n i ≤ at) (high : at + run ≤ start s n i + taken s i) where
+              (low : start s n i ≤ at) (changed : Changed (start s n i) (taken s i)) where
             -- part k is looked for where it stood
             part-there : (k : ℕ) → k < n → part t n k ≡ stretch t (start s n k) (taken s k)
             part-there k h =
@@ -155,7 +154,7 @@ module _ (s t : List ℕ) (limit ceiling room : ℕ) {at run : ℕ} (bytes-s : B
                 ∙ ap (λ (b : Bool). not b && fails (partSum s n i) (stretch t (start s n i) (taken s i))) (ne-eqb (size s i) nullSize some)
                 ∙ broken (partSum s n i) (part s n i) (stretch t (start s n i) (taken s i)) kept
                 (present (isNull s i) (fails (partSum s n i) (part s n i)) (not-null s n i some) (none i below))
-                (other-checksum damaged (start s n i) (taken s i) low high few bytes-s bytes-t)
+                changed
 
             first-is : firstFailing t n ≡ i
             first-is = first-at (partFails t n) n i below earlier failed
@@ -166,8 +165,8 @@ module _ (s t : List ℕ) (limit ceiling room : ℕ) {at run : ℕ} (bytes-s : B
             whole-too : whole s n ≡ whole t n
             whole-too = ap (λ (w : ℕ). headers n + w) (same-taken n (omega arith))
 
-            part-named : Names t (partAt i) (reading t limit ceiling room)
-            unfolding order
+            part-named : Names t (partAt i) (reading t limits)
+            unfolding variableLines sizeLines partLines
             part-named =
                 rw (← same-count)
                 (answer-is
@@ -188,56 +187,55 @@ module _ (s t : List ℕ) (limit ceiling room : ℕ) {at run : ℕ} (bytes-s : B
 counted-header : (s : List ℕ) (i : ℕ) → i < count s → hasVariableHeader (type s) (count s) ≡ true
 counted-header s i h = rw (lt-ltb 0 (count s) (omega arith)) (or-true (type s =? 0))
 
--- Demand 3: damage is named. An accepted packet, damaged only inside one run of at most eight bytes of one checksummed stretch
--- whose stored word is not 0, is refused by that stretch's checksum (or by 1 or 2, where its signature or type is none any more):
--- an altered term does not pass for another term.
-pub damage-is-named : DamageIsNamed
-unfolding reading
-damage-is-named s t limit ceiling room n f fixedHeader at run e hit =
-    fixed-named s t limit ceiling room (hit .bytes-before) (hit .bytes-after) (hit .few) (hit .damaged)
-    (lines-before s (count s) limit ceiling room _ (accepted n f) refl e .0)
-    (hit .guarded)
-    (rw (zero-add 28) at (hit .ends))
-damage-is-named s t limit ceiling room n f variableHeader at run e hit =
-    variable-named s t limit ceiling room (hit .bytes-before) (hit .bytes-after) (hit .few) (hit .damaged)
-    (lines-before s (count s) limit ceiling room _ (accepted n f) refl e .0)
-    (hit .starts)
-    (hit .has)
-    (lines-behind s (count s) limit ceiling room _ (accepted n f) refl e (hit .has) .0)
-    (hit .guarded)
-    (hit .ends)
-damage-is-named s t limit ceiling room n f (partAt i) at run e hit =
-    let low : start s (count s) i ≤ at = hit .starts in
-    let there : hasVariableHeader (type s) (count s) ≡ true = counted-header s i (hit .has .0) in
-    part-named s t limit ceiling room (hit .bytes-before) (hit .bytes-after) (hit .few) (hit .damaged)
-    (lines-before s (count s) limit ceiling room _ (accepted n f) refl e .0)
-    (omega arith)
-    there
-    (lines-behind s (count s) limit ceiling room _ (accepted n f) refl e there .0)
-    (omega arith)
-    i
-    (hit .has .0)
-    (hit .has .1)
-    (hit .guarded)
+reading-names : (s t : List ℕ) (limits : Limits) (n : ℕ) (f : List ℕ) (part : Stretch) (at run : ℕ)
+    → reading s limits ≡ accepted n f → Confined s t part at run → Names t part (reading t limits)
+reading-names s t limits n f fixedHeader at run e c =
+    fixed-named s t limits (c .inside .damaged) (passed-before s limits n f e) (c .guarded) (rw (zero-add fixedFieldsSize) at (c .inside .ends)) (c .changed)
+reading-names s t limits n f variableHeader at run e c =
+    variable-named s t limits (c .inside .damaged) (passed-before s limits n f e) (c .inside .starts) (c .inside .has)
+    (passed-behind s limits n f e (c .inside .has))
+    (c .guarded)
+    (c .inside .ends)
+    (c .changed)
+reading-names s t limits n f (partAt i) at run e c =
+    let low : start s (count s) i ≤ at = c .inside .starts in
+    let there : hasVariableHeader (type s) (count s) ≡ true = counted-header s i (c .inside .has .0) in
+    part-named s t limits (c .inside .damaged) (passed-before s limits n f e) (omega arith) there (passed-behind s limits n f e there) (omega arith) i
+    (c .inside .has .0)
+    (c .inside .has .1)
+    (c .guarded)
     low
-    (hit .ends)
+    (c .changed)
 
 -- an answer that names a stretch is no acceptance
-not-taken : (t : List ℕ) (stretch : Stretch) (a : Answer) → Names t stretch a → NotTaken a
-not-taken t fixedHeader a named = rw named (by-tests (signature t ≠? packetSignature) (2 <? type t))
+pub not-taken : (t : List ℕ) (part : Stretch) (a : Answer) → Names t part a → NotTaken a
+not-taken t fixedHeader a named = rw named (by-tests (signature t ≠? packetSignature) (lastType <? type t))
   where
     by-tests : (unsigned unknown : Bool)
-        → NotTaken (pick unsigned (refuse 1 (signature t ∷ [])) (pick unknown (refuse 2 (type t ∷ [])) (refuse 5 (fixedSum t ∷ checksum (take 28 t) ∷ []))))
+        → NotTaken (pick unsigned (refuse 1 (signature t ∷ [])) (pick unknown (refuse 2 (type t ∷ [])) (refuse 5 (fixedSum t ∷ checksum (fixedFields t) ∷ []))))
     by-tests true unknown = tt
     by-tests false true = tt
     by-tests false false = tt
 not-taken t variableHeader a named = rw named tt
 not-taken t (partAt i) a named = rw named tt
 
--- Demand 3 of the function `decode_with`: damage is named, and the lent table is left as it was.
-pub decode-names-damage : DecodeNamesDamage
-decode-names-damage s t limit ceiling table packet consumed filled r after stretch at run taken hit told =
-    let named : Names t stretch (paper r) =
-    rw (told .answer)
-    (damage-is-named s t limit ceiling (room table) consumed (fieldsOf packet) stretch at run (sym (taken .answer)) hit) in
-    (named, packet-tables-keep t limit ceiling table r after told .0 (not-taken t stretch (paper r) named))
+-- Damage that is confined to one checksummed stretch whose stored word is not 0, and that changed its checksum, is
+-- named, and the lent table is left as it was.
+pub confined-is-named : ConfinedIsNamed
+confined-is-named s t limits table lent packet consumed filled r after part at run taken hit told =
+    let named : Names t part (paper r) = rw (told .answer) (reading-names s t limits consumed (fieldsOf packet) part at run (sym (taken .answer)) hit) in
+    (named, packet-tables-keep t limits lent r after told .0 (not-taken t part (paper r) named))
+
+-- Demand 3: damage is named. An accepted packet, damaged only inside one run of at most eight bytes of one checksummed
+-- stretch whose stored word is not 0, is refused by that stretch's checksum (or by 1 or 2, where its signature or type
+-- is none any more): an altered term does not pass for another term.
+pub damage-is-named : DamageIsNamed
+damage-is-named s t limits table lent packet consumed filled r after part at run taken hit =
+    confined-is-named s t limits table lent packet consumed filled r after part at run taken
+    (record {
+      guarded = hit .guarded;
+      inside = hit .inside;
+      changed =
+          other-checksum (hit .inside .damaged) (from s part) (long s part) (hit .inside .starts) (hit .inside .ends) (hit .few) (hit .bytes-before)
+          (hit .bytes-after);
+    })

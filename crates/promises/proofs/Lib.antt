@@ -8,8 +8,10 @@ pub mod Written
 pub mod RoundTrip
 pub mod Prefix
 pub mod Encoded
+pub mod Parts
 pub mod Rowsets
 pub mod Guids
 pub mod Examples
 pub mod TablesKeep
 pub mod OneResult
+pub mod Refuted

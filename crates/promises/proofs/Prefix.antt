@@ -9,18 +9,18 @@ use native.Mathlib.Omega.{arith}
 use borrow.Author.Tests.{lt-ltb, le-ltb}
 use lib.ListN.{length, getD, take, drop, length-take, length-drop}
 use lib.Seq.{ext-getD, getD-take, getD-drop, take-take, length-take-le}
-use Rattle.words.specs.Answer.{Answer, accepted, more}
+use Rattle.words.specs.Answer.{more}
 use Rattle.words.specs.Buffer.{stretch}
-use Rattle.words.specs.Decide.{_=?_, _<?_, decide}
+use Rattle.words.specs.Decide.{_=?_, _<?_}
 use Rattle.words.proofs.WordLaws.{word-take}
 use Rattle.words.proofs.DecideLaws.{first-same, le-or-gt}
-use Rattle.packet.specs.Layout.{nullSize, largestPart, hasVariableHeader, headers, type, count, fields, size, takenBefore, variable, variableSum, whole}
-use Rattle.packet.specs.Reading.{fails, tooLarge, firstTooLarge, order, reading}
-use Rattle.packet_table.specs.Wire.{packetSize}
+use Rattle.packet.specs.Layout.{nullSize, largestPart, fixedHeaderSize, hasVariableHeader, headers, type, count, size, takenBefore, variable, variableSum, whole}
+use Rattle.packet_read.specs.Reading.{Limits, fails, tooLarge, firstTooLarge, fixedLines, variableLines, sizeLines, reading}
+use Rattle.packet.specs.Wire.{packetSize}
 use Rattle.promises.specs.RoundTrip.{Message, wire, wireSize, Valid, Held, StrictPrefix}
 use Rattle.promises.proofs.Acceptance.{before-of, behind-of}
 use Rattle.packet_write.proofs.PieceLaws.{length-packet}
-use Rattle.promises.proofs.Lines.{Before, Behind, pass-before}
+use Rattle.promises.proofs.Lines.{Before, Behind, rest, reading-is, pass-before}
 use Rattle.promises.proofs.RoundTrip.{is-count, is-type, fixed-ok, variable-ok, is-whole}
 
 -- a stretch that a front still holds
@@ -36,17 +36,14 @@ stretch-take s k from long h = ext-getD 0 (stretch (take k s) from long) (stretc
         getD-take long (drop from (take k s)) i 0 short ∙ getD-drop from (take k s) i 0 ∙ getD-take k s (from + i) 0 (omega arith)
         ∙ sym (getD-drop from s i 0) ∙ sym (getD-take long (drop from s) i 0 short)
 
--- any front of less than 36 bytes
-short-more : (p : List ℕ) (limit ceiling room : ℕ) → length p < 36 → reading p limit ceiling room ≡ more
-unfolding reading order
-short-more p limit ceiling room h = rw (lt-ltb (length p) 36 h)
+-- any front that is shorter than the fixed header
+short-more : (p : List ℕ) (limits : Limits) → length p < fixedHeaderSize → reading p limits ≡ more
+unfolding fixedLines
+short-more p limits h = reading-is p (count p) limits refl ∙ rw (lt-ltb (length p) fixedHeaderSize h)
 
-module _ (s : List ℕ) (n limit ceiling room k : ℕ) (there : k ≤ length s) (counted : count s ≡ n) (before : Before s n ceiling) (long : 36 ≤ k) where
+module _ (s : List ℕ) (n : ℕ) (limits : Limits) (k : ℕ) (there : k ≤ length s) (counted : count s ≡ n) (before : Before s n limits) (long : fixedHeaderSize ≤ k) where
   abbrev p : List ℕ
   p = take k s
-
-  abbrev end : Answer
-  end = accepted (whole p n) (fields p)
 
   length-is : length p ≡ k
   length-is = length-take-le k s there
@@ -54,25 +51,24 @@ module _ (s : List ℕ) (n limit ceiling room k : ℕ) (there : k ≤ length s) 
   same-type : type p ≡ type s
   same-type = word-take 2 k s 4 (omega arith)
 
-  before-too : Before p n ceiling
+  before-too : Before p n limits
   before-too =
       record {
-        there = le-ltb (length p) 36 (rw length-is long);
+        there = le-ltb (length p) fixedHeaderSize (rw length-is long);
         signed = rw (word-take 4 k s 0 (omega arith)) (before .signed);
         known = rw same-type (before .known);
         guarded = rw (word-take 8 k s 28 (omega arith), take-take 28 k s (omega arith)) (before .guarded);
         few = before .few;
       }
 
-  module _ (with-header : hasVariableHeader (type s) n ≡ true) (behind : Behind s n limit room) where
-    answer-is : reading p limit ceiling room ≡ decide (drop 6 (order p n limit ceiling room)) end
-    unfolding reading
+  module _ (with-header : hasVariableHeader (type s) n ≡ true) (behind : Behind s n limits) where
+    answer-is : reading p limits ≡ rest p n limits
     answer-is =
-        ap (λ (c : ℕ). decide (order p c limit ceiling room) (accepted (whole p c) (fields p))) (word-take 4 k s 24 (omega arith) ∙ counted)
-        ∙ pass-before p n limit ceiling room end before-too (rw same-type with-header)
+        reading-is p n limits (word-take 4 k s 24 (omega arith) ∙ counted)
+        ∙ pass-before p n limits before-too (rest p n limits) (rw same-type with-header)
 
-    headers-more : k < headers n → reading p limit ceiling room ≡ more
-    unfolding order
+    headers-more : k < headers n → reading p limits ≡ more
+    unfolding variableLines
     headers-more h = answer-is ∙ rw (behind .short, lt-ltb (length p) (headers n) (rw length-is h))
 
     module _ (past : headers n ≤ k) where
@@ -93,8 +89,8 @@ module _ (s : List ℕ) (n limit ceiling room k : ℕ) (there : k ≤ length s) 
       variable-too : fails (variableSum p n) (variable p n) ≡ false
       variable-too = rw (word-take 8 k s (36 + 12 * n) (omega arith), stretch-take s k 36 (12 * n) (omega arith)) (behind .guarded)
 
-      whole-more : k < whole s n → reading p limit ceiling room ≡ more
-      unfolding order
+      whole-more : k < whole s n → reading p limits ≡ more
+      unfolding variableLines sizeLines
       whole-more h =
           answer-is
           ∙ rw (
@@ -108,38 +104,39 @@ module _ (s : List ℕ) (n limit ceiling room k : ℕ) (there : k ≤ length s) 
             lt-ltb (length p) (whole s n) (rw length-is h),
           )
 
-    more-is : k < whole s n → reading p limit ceiling room ≡ more
+    more-is : k < whole s n → reading p limits ≡ more
     more-is h = ⊎-elim (λ (past : headers n ≤ k). whole-more past h) (λ (short : k < headers n). headers-more short) (le-or-gt (headers n) k)
 
-module _ (m : Message) (limit ceiling room k : ℕ) (ok : Valid m) (held : Held m limit ceiling room) (h : k < wireSize m) where
+module _ (m : Message) (limits : Limits) (k : ℕ) (ok : Valid m) (held : Held m limits) (h : k < wireSize m) where
   abbrev whole-packet : List ℕ
   whole-packet = wire m ++ []
 
   all-there : length whole-packet ≡ wireSize m
-  all-there = ap length (append-nil (wire m)) ∙ length-packet (m .type) (m .flags) (m .w0) (m .w1) (m .w2) (m .w3) (m .parts)
+  all-there = ap length (append-nil (wire m)) ∙ length-packet (m .type) (m .flags) (m .id) (m .parts)
 
-  past-fixed : 36 ≤ k → reading (take k whole-packet) limit ceiling room ≡ more
+  past-fixed : fixedHeaderSize ≤ k → reading (take k whole-packet) limits ≡ more
   unfolding packetSize
   past-fixed long = by-header (hasVariableHeader (m .type) (length (m .parts))) refl
     where
-      by-header : (b : Bool) → hasVariableHeader (m .type) (length (m .parts)) ≡ b → reading (take k whole-packet) limit ceiling room ≡ more
+      by-header : (b : Bool) → hasVariableHeader (m .type) (length (m .parts)) ≡ b → reading (take k whole-packet) limits ≡ more
       by-header false e =
-          let bare : wireSize m ≡ 36 = rw e in
+          let bare : wireSize m ≡ fixedHeaderSize = rw e in
           absurd (omega arith)
       by-header true e =
-          more-is whole-packet (count whole-packet) limit ceiling room k (omega (arith, all-there)) refl
-          (before-of whole-packet limit ceiling room (fixed-ok m [] ok ceiling (held .counted))) long
+          more-is whole-packet (count whole-packet) limits k (omega (arith, all-there)) refl
+          (before-of whole-packet limits (fixed-ok m [] ok limits (held .counted))) long
           (rw (is-type m [] ok, is-count m [] ok) e)
-          (behind-of whole-packet limit ceiling room (count whole-packet) (rw (is-count m [] ok) (variable-ok m [] ok e limit room (held .within e) (held .roomy))))
+          (behind-of whole-packet limits (count whole-packet) (rw (is-count m [] ok) (variable-ok m [] ok e limits (held .within e) (held .roomy))))
           (rw (is-count m [] ok, is-whole m [] ok e) h)
 
-  prefix-more : reading (take k whole-packet) limit ceiling room ≡ more
+  prefix-more : reading (take k whole-packet) limits ≡ more
   prefix-more =
       ⊎-elim past-fixed
-      (λ (short : k < 36). short-more (take k whole-packet) limit ceiling room (omega (arith, length-take k whole-packet)))
-      (le-or-gt 36 k)
+      (λ (short : k < fixedHeaderSize). short-more (take k whole-packet) limits (omega (arith, length-take k whole-packet)))
+      (le-or-gt fixedHeaderSize k)
 
--- Each strict prefix of a written packet asks for more, so a packet that arrives in pieces is neither refused nor taken early.
+-- Each strict prefix of a written packet asks for more, so a packet that arrives in pieces is neither refused nor taken
+-- early.
 pub strict-prefix : StrictPrefix
-strict-prefix m limit ceiling room k ok held h =
-    ap (λ (l : List ℕ). reading (take k l) limit ceiling room) (sym (append-nil (wire m))) ∙ prefix-more m limit ceiling room k ok held h
+strict-prefix m limits k ok held h =
+    ap (λ (l : List ℕ). reading (take k l) limits) (sym (append-nil (wire m))) ∙ prefix-more m limits k ok held h

@@ -13,10 +13,12 @@ use Rattle.words.proofs.WordLaws.{length-bytesOf}
 use Rattle.words.specs.Word.{word, bytesOf}
 use Rattle.words.specs.Decide.{pick, _=?_}
 use Rattle.crc64.specs.Polynomial.{checksum}
+use Rattle.guid.specs.Guid.{wireBytes}
+use Rattle.packet_read.specs.Reading.{Limits}
 use Rattle.packet.specs.Layout.{packetSignature, nullSize, largestPart, hasVariableHeader, headers, signature, type, flags, count, fixedSum, fields, size, taken, takenBefore, partSum, variable, variableSum, whole, part}
-use Rattle.packet_table.specs.Wire.{Part, null, bytes, sizeWord, sumWord, content, sizes, sums, contents, idBytes, sealed, fixedFields, body, packetBytes, packetSize}
+use Rattle.packet.specs.Wire.{Part, null, bytes, sizeWord, sumWord, content, sizes, sums, contents, sealed, fixedFields, body, packetBytes, packetSize}
 use Rattle.promises.specs.Acceptance.{FixedHeader, VariableHeader, Acceptable, consumed}
-use Rattle.promises.specs.RoundTrip.{Message, wire, wireSize, Valid, Held, ReadsPart, RoundTrip}
+use Rattle.promises.specs.RoundTrip.{Message, wire, wireSize, fieldsFor, Valid, Held, ReadsPart, RoundTrip}
 use Rattle.promises.proofs.Acceptance.{acceptance}
 use Rattle.packet_write.proofs.PieceLaws.{length-fixed, length-sealed, length-sizes, length-sums, length-packet}
 use Rattle.promises.proofs.Written.{word-front, word-next, word-past-front, checksum-fits, sizes-at, sums-at, contents-at}
@@ -29,7 +31,7 @@ module _ (m : Message) (tail : List ℕ) where
   n = length (m .parts)
 
   abbrev fixed : List ℕ
-  fixed = fixedFields (m .type) (m .flags) (m .w0 ∷ m .w1 ∷ m .w2 ∷ m .w3 ∷ []) n
+  fixed = fixedFields (m .type) (m .flags) (m .id) n
 
   abbrev rest : List ℕ
   rest = pick (hasVariableHeader (m .type) n) (body (m .parts)) [] ++ tail
@@ -38,10 +40,10 @@ module _ (m : Message) (tail : List ℕ) where
   abbrev words : List ℕ
   words =
       bytesOf 4 packetSignature
-      ++ (bytesOf 2 (m .type) ++ (bytesOf 2 (m .flags) ++ (bytesOf 4 (m .w0) ++ (bytesOf 4 (m .w1) ++ (bytesOf 4 (m .w2) ++ (bytesOf 4 (m .w3) ++ (bytesOf 4 n ++ (bytesOf 8 (checksum fixed) ++ rest))))))))
+      ++ (bytesOf 2 (m .type) ++ (bytesOf 2 (m .flags) ++ (bytesOf 4 (m .id .w0) ++ (bytesOf 4 (m .id .w1) ++ (bytesOf 4 (m .id .w2) ++ (bytesOf 4 (m .id .w3) ++ (bytesOf 4 n ++ (bytesOf 8 (checksum fixed) ++ rest))))))))
 
   by-words : s ≡ words
-  unfolding packetBytes sealed fixedFields idBytes
+  unfolding packetBytes sealed fixedFields wireBytes
   by-words = simp append-assoc
 
   by-fixed : s ≡ fixed ++ (bytesOf 8 (checksum fixed) ++ rest)
@@ -65,19 +67,19 @@ module _ (m : Message) (tail : List ℕ) where
     is-flags : flags s ≡ m .flags
     is-flags = at 2 6 ∙ word-next 2 4 _ 2 _ ∙ word-next 2 2 _ 0 _ ∙ word-front 2 (m .flags) _ (ok .flags-fit)
 
-    is-w0 : word 4 s 8 ≡ m .w0
-    is-w0 = at 4 8 ∙ word-next 4 4 _ 4 _ ∙ word-next 4 2 _ 2 _ ∙ word-next 4 2 _ 0 _ ∙ word-front 4 (m .w0) _ (ok .w0-fits)
+    is-w0 : word 4 s 8 ≡ m .id .w0
+    is-w0 = at 4 8 ∙ word-next 4 4 _ 4 _ ∙ word-next 4 2 _ 2 _ ∙ word-next 4 2 _ 0 _ ∙ word-front 4 (m .id .w0) _ (ok .id-fits .fits0)
 
-    is-w1 : word 4 s 12 ≡ m .w1
-    is-w1 = at 4 12 ∙ word-next 4 4 _ 8 _ ∙ word-next 4 2 _ 6 _ ∙ word-next 4 2 _ 4 _ ∙ word-next 4 4 _ 0 _ ∙ word-front 4 (m .w1) _ (ok .w1-fits)
+    is-w1 : word 4 s 12 ≡ m .id .w1
+    is-w1 = at 4 12 ∙ word-next 4 4 _ 8 _ ∙ word-next 4 2 _ 6 _ ∙ word-next 4 2 _ 4 _ ∙ word-next 4 4 _ 0 _ ∙ word-front 4 (m .id .w1) _ (ok .id-fits .fits1)
 
-    is-w2 : word 4 s 16 ≡ m .w2
-    is-w2 = at 4 16 ∙ word-next 4 4 _ 12 _ ∙ word-next 4 2 _ 10 _ ∙ word-next 4 2 _ 8 _ ∙ word-next 4 4 _ 4 _ ∙ word-next 4 4 _ 0 _ ∙ word-front 4 (m .w2) _ (ok .w2-fits)
+    is-w2 : word 4 s 16 ≡ m .id .w2
+    is-w2 = at 4 16 ∙ word-next 4 4 _ 12 _ ∙ word-next 4 2 _ 10 _ ∙ word-next 4 2 _ 8 _ ∙ word-next 4 4 _ 4 _ ∙ word-next 4 4 _ 0 _ ∙ word-front 4 (m .id .w2) _ (ok .id-fits .fits2)
 
-    is-w3 : word 4 s 20 ≡ m .w3
+    is-w3 : word 4 s 20 ≡ m .id .w3
     is-w3 =
         at 4 20 ∙ word-next 4 4 _ 16 _ ∙ word-next 4 2 _ 14 _ ∙ word-next 4 2 _ 12 _ ∙ word-next 4 4 _ 8 _ ∙ word-next 4 4 _ 4 _ ∙ word-next 4 4 _ 0 _
-        ∙ word-front 4 (m .w3) _ (ok .w3-fits)
+        ∙ word-front 4 (m .id .w3) _ (ok .id-fits .fits3)
 
     pub is-count : count s ≡ n
     is-count =
@@ -85,7 +87,7 @@ module _ (m : Message) (tail : List ℕ) where
         ∙ word-front 4 n _ (omega (arith, ok .few))
 
     fixed-long : length fixed ≡ 28
-    fixed-long = length-fixed (m .type) (m .flags) (m .w0) (m .w1) (m .w2) (m .w3) n
+    fixed-long = length-fixed (m .type) (m .flags) (m .id) n
 
     is-fixed : take 28 s ≡ fixed
     is-fixed = ap (take 28) by-fixed ∙ take-at fixed _ 28 fixed-long
@@ -96,7 +98,7 @@ module _ (m : Message) (tail : List ℕ) where
     header-long : length (sealed fixed) ≡ 36
     header-long = length-sealed fixed ∙ ap (λ (k : ℕ). k + 8) fixed-long
 
-    fields-are : fields s ≡ m .type ∷ m .flags ∷ m .w0 ∷ m .w1 ∷ m .w2 ∷ m .w3 ∷ n ∷ []
+    fields-are : fields s ≡ fieldsFor m
     fields-are = rw (is-type, is-flags, is-w0, is-w1, is-w2, is-w3, is-count)
 
     -- with a variable header
@@ -194,8 +196,8 @@ module _ (m : Message) (tail : List ℕ) where
           told null is there = is
           told (bytes b) is there = (is, there)
 
-      pub variable-ok : (limit room : ℕ) → wireSize m ≤ limit → n ≤ room → VariableHeader s n limit room
-      variable-ok limit room within roomy =
+      pub variable-ok : (limits : Limits) → wireSize m ≤ limits .bytes → n ≤ limits .room → VariableHeader s n limits
+      variable-ok limits within roomy =
           record {
             short = omega (arith, is-whole);
             headers-there = omega (arith, there);
@@ -208,7 +210,7 @@ module _ (m : Message) (tail : List ℕ) where
           }
         where
           there : whole s n ≤ length s
-          there = rw (is-whole, length-append (wire m) tail, length-packet (m .type) (m .flags) (m .w0) (m .w1) (m .w2) (m .w3) ps) (omega arith)
+          there = rw (is-whole, length-append (wire m) tail, length-packet (m .type) (m .flags) (m .id) ps) (omega arith)
 
           small-size : (i : ℕ) → i < n → (size s i ≡ nullSize → ⊥) → size s i ≤ largestPart
           small-size i h some = rw (is-size i h) (of (getD ps i null) (λ (e : getD ps i null ≡ null). some (is-size i h ∙ ap sizeWord e)) (ok .small i h))
@@ -221,8 +223,8 @@ module _ (m : Message) (tail : List ℕ) where
           sum-is null some = absurd (some refl)
           sum-is (bytes b) some = refl
 
-    pub fixed-ok : (ceiling : ℕ) → n ≤ ceiling → FixedHeader s ceiling
-    fixed-ok ceiling counted =
+    pub fixed-ok : (limits : Limits) → n ≤ limits .parts → FixedHeader s limits
+    fixed-ok limits counted =
         record {
           there = rw (by-header, length-append (sealed fixed) rest, header-long) (omega arith);
           signed = is-signature;
@@ -234,11 +236,11 @@ module _ (m : Message) (tail : List ℕ) where
     same-header : hasVariableHeader (type s) (count s) ≡ hasVariableHeader (m .type) n
     same-header = rw (is-type, is-count)
 
-    acceptable : (limit ceiling room : ℕ) → Held m limit ceiling room → Acceptable s limit ceiling room
-    acceptable limit ceiling room held = (
-      fixed-ok ceiling (held .counted),
+    acceptable : (limits : Limits) → Held m limits → Acceptable s limits
+    acceptable limits held = (
+      fixed-ok limits (held .counted),
       (λ h. let there : hasVariableHeader (m .type) n ≡ true = sym same-header ∙ h in
-          rw is-count (variable-ok there limit room (held .within there) (held .roomy))),
+          rw is-count (variable-ok there limits (held .within there) (held .roomy))),
     )
 
     consumed-is : consumed s ≡ wireSize m
@@ -249,11 +251,11 @@ module _ (m : Message) (tail : List ℕ) where
         by-case true e = rw (same-header, e, is-count) (rw e at (is-whole e))
         by-case false e = rw (same-header, e)
 
--- Writing a valid packet and reading it with any tail, under limits and room that hold it, gives back its type, flags, id, nulls
--- and part bytes, and consumes exactly its bytes.
+-- Writing a valid packet and reading it with any tail, under limits and room that hold it, gives back its type, flags,
+-- id, nulls and part bytes, and consumes exactly its bytes.
 pub round-trip : RoundTrip
-round-trip m limit ceiling room tail ok held = (
-  acceptance (wire m ++ tail) limit ceiling room .0 (acceptable m tail ok limit ceiling room held)
+round-trip m limits tail ok held = (
+  acceptance (wire m ++ tail) limits .0 (acceptable m tail ok limits held)
       ∙ rw (consumed-is m tail ok, fields-are m tail ok),
   (λ i h. reads-part m tail ok (rw (lt-ltb 0 (length (m .parts)) (omega arith)) (or-true (m .type =? 0))) i h),
 )

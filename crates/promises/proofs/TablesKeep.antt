@@ -9,13 +9,16 @@ use borrow.Author.Tests.{ltb-true}
 use Rattle.words.specs.Answer.{Answer, accepted, more, refused, refuse, afterwards}
 use Rattle.words.specs.Decide.{pick, _<?_}
 use Rattle.words.specs.Buffer.{fitted}
-use Rattle.words.proofs.AnswerLaws.{not-taken-keeps, refused-not-accepted}
+use Rattle.words.proofs.AnswerLaws.{refused-not-accepted}
+use Rattle.words.proofs.Unique.{holds-kept}
+use Rattle.packet_read.specs.Reading.{reading}
+use Rattle.packet_write.specs.Writing.{writing}
+use Rattle.packet.specs.Paper.{typeNumber}
 use Rattle.words.proofs.BufferLaws.{fitted-short}
 use Rattle.guid.specs.Text.{textOf}
 use Rattle.packet.specs.Layout.{count}
-use Rattle.packet.specs.Reading.{entryWords, entries}
-use Rattle.packet.specs.Paper.{paper, refusal}
-use Rattle.packet.proofs.EntryLaws.{length-entries}
+use Rattle.packet.specs.Entries.{entryWords, entries}
+use Rattle.packet_read.proofs.EntryLaws.{length-entries}
 use Rattle.packet_write.specs.Statement.{bytesFor}
 use Rattle.wire_value.specs.Layout.{rowsetBytes}
 use Rattle.wire_value.proofs.Unique.{paper-keeps}
@@ -24,21 +27,22 @@ use Rattle.promises.specs.TablesKeep.{PacketTablesKeep, PacketOutputKeep
 
 past : (s table : List ℕ) (a : Answer) → drop (entryWords * count s) (afterwards a (entries s) table) ≡ drop (entryWords * count s) table
 past s table (accepted n f) =
-    let long : length (entries s) ≡ 2 * count s = length-entries s (count s) 0 (count s) in
-    drop-at (entries s) (drop (length (entries s)) table) (2 * count s) long ∙ ap (λ (k : ℕ). drop k table) long
+    let long : length (entries s) ≡ entryWords * count s = length-entries s (count s) 0 (count s) in
+    drop-at (entries s) (drop (length (entries s)) table) (entryWords * count s) long ∙ ap (λ (k : ℕ). drop k table) long
 past s table more = refl
 past s table (refused number values consumed) = refl
 
 -- Every refusal and need-more leaves the part table as it was; entries past those filled are unchanged.
 pub packet-tables-keep : PacketTablesKeep
-packet-tables-keep s limit ceiling table r after told = (
-  (λ taken. told .tables ∙ not-taken-keeps (paper r) (entries s) table taken),
-  ap (drop (entryWords * count s)) (told .tables) ∙ past s table (paper r),
+packet-tables-keep s limits table r after told = (
+  (λ taken. holds-kept (reading s limits) (entries s) table after (rw (told .answer) at taken) (told .tables)),
+  ap (drop (entryWords * count s)) (told .tables) ∙ past s table (reading s limits),
 )
 
 -- A packet that is not written leaves the output.
 pub packet-output-keeps : PacketOutputKeeps
-packet-output-keeps type flags id area table out error after told = told .output ∙ not-taken-keeps (refusal error 0) (bytesFor type flags id area table) out tt
+packet-output-keeps type flags id area table out error after told =
+    holds-kept (writing (typeNumber type) area table (length out)) (bytesFor type flags id area table) out after (rw (← told .answer) tt) (told .output)
 
 -- A rowset that is refused leaves both tables.
 pub rowset-tables-keep : RowsetTablesKeep

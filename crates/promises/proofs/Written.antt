@@ -11,7 +11,7 @@ use Rattle.words.proofs.WordLaws.{word-behind, word-bytesOf, length-bytesOf}
 use Rattle.crc64.specs.Polynomial.{checksum}
 use Rattle.crc64.proofs.Folding.{fold-lt}
 use Rattle.packet.specs.Layout.{largestPart}
-use Rattle.packet_table.specs.Wire.{Part, null, bytes, sizeWord, sumWord, content, sizes, sums, contents}
+use Rattle.packet.specs.Wire.{Part, null, bytes, sizeWord, sumWord, content, sizes, sums, contents}
 
 -- the word that stands at the front
 pub word-front : (k w : ℕ) (x : List ℕ) → w < 256 ^ k → word k (bytesOf k w ++ x) 0 ≡ w

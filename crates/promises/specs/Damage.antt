@@ -1,24 +1,24 @@
--- Demand 3: damage is named. Take an input that the packet reader accepts. Change it only inside one run of at most eight
--- consecutive bytes that lies wholly in one checksummed stretch whose stored word is not 0. Then the reader refuses it by that
--- stretch's checksum. One statement over the stretch: a wider kind of damage changes `Damaged` and the bound alone, a new
--- refusal of the fixed header that comes before 5 one line of `Names`. Assumes nothing.
+-- Demand 3: damage is named. Take an input that the packet reader accepts. Change it only inside one run of at most
+-- eight consecutive bytes that lies wholly in one checksummed stretch whose stored word is not 0. Then the reader
+-- refuses it by that stretch's checksum. One statement over the stretch and over the kind of damage: a new refusal of
+-- the fixed header that comes before 5 is one line of `Names`. Assumes nothing.
 use Prim.Native.Nat.{ℕ, _+_, _*_, _≤_, _<_}
 use mathlib.Core.Bool.{true}
 use mathlib.Core.List.{List, [], _∷_}
 use mathlib.Core.Path.{_≡_}
-use lib.ListN.{take}
 use Rattle.words.specs.Word.{Bytes}
-use Rattle.words.specs.Answer.{Answer, accepted, refused, refuse}
+use Rattle.words.specs.Answer.{Answer, refused, refuse}
+use Rattle.words.specs.Buffer.{stretch}
 use Rattle.words.specs.Decide.{decide, _⇒_, _≠?_, _<?_}
 use Rattle.crc64.specs.Polynomial.{checksum}
 use Rattle.crc64.specs.Damage.{Damaged}
-use Rattle.packet.specs.Layout.{packetSignature, nullSize, hasVariableHeader, signature, type, count, fixedSum, size, taken, partSum, variable, variableSum, start, part}
+use Rattle.packet.specs.Layout.{packetSignature, nullSize, lastType, fixedFieldsSize, fixedHeaderSize, partHeaderSize, hasVariableHeader, signature, type, count, fixedSum, fixedFields, size, taken, partSum, variable, variableSum, start, part}
 use Rattle.packet.specs.declared.Packet.{Packet}
-use Rattle.packet.specs.declared.Decoded.{Decoded}
-use Rattle.packet.specs.declared.Decoded.the-variants.{Read}
-use Rattle.packet.specs.Paper.{paper}
-use Rattle.packet.specs.Statement.{Decodes}
-use Rattle.packet.specs.Reading.{reading}
+use Rattle.packet_read.specs.declared.Decoded.{Decoded}
+use Rattle.packet_read.specs.declared.Decoded.the-variants.{Read}
+use Rattle.packet_read.specs.Paper.{paper}
+use Rattle.packet_read.specs.Statement.{Decodes}
+use Rattle.packet_read.specs.Reading.{Limits, limited}
 
 -- the checksummed stretches of a packet
 pub data Stretch : Type 0 where
@@ -36,12 +36,12 @@ module _ (s : List ℕ) where
   -- where it begins, how long it is, and the checksum word stored for it
   abbrev pub from : Stretch → ℕ
   from fixedHeader = 0
-  from variableHeader = 36
+  from variableHeader = fixedHeaderSize
   from (partAt i) = start s (count s) i
 
   abbrev pub long : Stretch → ℕ
-  long fixedHeader = 28
-  long variableHeader = 12 * count s
+  long fixedHeader = fixedFieldsSize
+  long variableHeader = partHeaderSize * count s
   long (partAt i) = taken s i
 
   abbrev pub stored : Stretch → ℕ
@@ -49,41 +49,66 @@ module _ (s : List ℕ) where
   stored variableHeader = variableSum s (count s)
   stored (partAt i) = partSum s (count s) i
 
-  -- an answer to s names the stretch: by its checksum. Document 01's order looks at the signature and at the type before it
-  -- verifies the fixed header, so where the damage made either of them none at all, 1 or 2 names that.
+  -- an answer to s names the stretch: by its checksum. Document 01's order looks at the signature and at the type
+  -- before it verifies the fixed header, so where the damage made either of them none at all, 1 or 2 names that.
   abbrev pub Names : Stretch → Answer → Type 0
   Names fixedHeader a =
       a
-      ≡ decide (signature s ≠? packetSignature ⇒ refuse 1 (signature s ∷ []) ∷ 2 <? type s ⇒ refuse 2 (type s ∷ []) ∷ [])
-      (refuse 5 (fixedSum s ∷ checksum (take 28 s) ∷ []))
+      ≡ decide
+      (signature s ≠? packetSignature ⇒ refuse 1 (signature s ∷ []) ∷ lastType <? type s ⇒ refuse 2 (type s ∷ []) ∷ [])
+      (refuse 5 (fixedSum s ∷ checksum (fixedFields s) ∷ []))
   Names variableHeader a = a ≡ refuse 6 (variableSum s (count s) ∷ checksum (variable s (count s)) ∷ [])
-  Names (partAt i) a = a ≡ refused 7 (i ∷ partSum s (count s) i ∷ checksum (part s (count s) i) ∷ []) (start s (count s) (i + 1))
+  Names (partAt i) a =
+      a ≡ refused 7 (i ∷ partSum s (count s) i ∷ checksum (part s (count s) i) ∷ []) (start s (count s) (i + 1))
 
--- t is s, altered only inside the `run` bytes from `at` on, at most eight, which lie in one stretch of s whose stored word is not 0
-pub record Hit (s t : List ℕ) (stretch : Stretch) (at run : ℕ) : Type 0 where
-  pub bytes-before : Bytes s
-  pub bytes-after : Bytes t
-  pub has : Has s stretch
-  pub guarded : stored s stretch ≡ 0 → ⊥
-  pub few : run ≤ 8
-  pub starts : from s stretch ≤ at
-  pub ends : at + run ≤ from s stretch + long s stretch
+-- t is s, altered only inside the `run` bytes from `at` on, which lie in one stretch of s
+pub record Inside (s t : List ℕ) (part : Stretch) (at run : ℕ) : Type 0 where
+  pub has : Has s part
+  pub starts : from s part ≤ at
+  pub ends : at + run ≤ from s part + long s part
   pub damaged : Damaged at run s t
 
-abbrev pub DamageIsNamed : Type 0
-DamageIsNamed =
-    (s t : List ℕ) (limit ceiling room n : ℕ) (fields : List ℕ) (stretch : Stretch) (at run : ℕ)
-    → reading s limit ceiling room ≡ accepted n fields
-    → Hit s t stretch at run
-    → Names t stretch (reading t limit ceiling room)
+-- a stretch whose stored word is not 0 has another checksum
+pub record Confined (s t : List ℕ) (part : Stretch) (at run : ℕ) : Type 0 where
+  pub guarded : stored s part ≡ 0 → ⊥
+  pub inside : Inside s t part at run
+  pub changed : checksum (stretch s (from s part) (long s part)) ≡ checksum (stretch t (from s part) (long s part)) → ⊥
 
--- the same of the function: by its own statement `Decodes`, an altered packet is answered by a refusal that names the stretch,
--- and the lent table is left as it was
-abbrev pub DecodeNamesDamage : Type 0
-DecodeNamesDamage =
-    (s t : List ℕ) (limit ceiling : ℕ) (table : List ℕ) (packet : Packet) (consumed : ℕ) (filled : List ℕ) (r : Decoded) (after : List ℕ)
-    (stretch : Stretch) (at run : ℕ)
-    → Decodes s limit ceiling table (Read packet consumed) filled
-    → Hit s t stretch at run
-    → Decodes t limit ceiling table r after
-    → Names t stretch (paper r) × (after ≡ table)
+-- bytes, of which at most eight are altered
+pub record Hit (s t : List ℕ) (part : Stretch) (at run : ℕ) : Type 0 where
+  pub bytes-before : Bytes s
+  pub bytes-after : Bytes t
+  pub few : run ≤ 8
+  pub guarded : stored s part ≡ 0 → ⊥
+  pub inside : Inside s t part at run
+
+-- Of the function, by its own statement `Decodes`: an altered packet, read under the same limits, its table's room
+-- among them, is answered by a refusal that names the stretch, and the lent table is left as it was.
+abbrev pub NamedWhere : (List ℕ → List ℕ → Stretch → ℕ → ℕ → Type 0) → Type 0
+NamedWhere Altered =
+    (s t : List ℕ) (limits : Limits) (table lent : List ℕ) (packet : Packet) (consumed : ℕ) (filled : List ℕ)
+    (r : Decoded) (after : List ℕ) (part : Stretch) (at run : ℕ)
+    → Decodes s limits table (Read packet consumed) filled
+    → Altered s t part at run
+    → Decodes t limits lent r after
+    → Names t part (paper r) × (after ≡ lent)
+
+-- whatever the damage: where it is confined to one stretch and changed its checksum, it is named
+abbrev pub ConfinedIsNamed : Type 0
+ConfinedIsNamed = NamedWhere Confined
+
+-- demand 3
+abbrev pub DamageIsNamed : Type 0
+DamageIsNamed = NamedWhere Hit
+
+-- the limits of a call that allows no bytes, no parts and lends no table
+abbrev pub nothing : Limits
+nothing = limited 0 0 []
+
+-- its premises can be met: a packet that is read, and one that a run of damage made of it
+pub record DamageHappens : Type 0 where
+  pub sent : List ℕ
+  pub received : List ℕ
+  pub packet : Packet
+  pub read : Decodes sent nothing [] (Read packet fixedHeaderSize) []
+  pub hit : Hit sent received fixedHeader 8 1

@@ -10,7 +10,7 @@ use Rattle.words.specs.Answer.{Answer, accepted, more, refused, refuse}
 use Rattle.crc64.specs.Polynomial.{checksum}
 use Rattle.guid.specs.Guid.{guidOf}
 use Rattle.guid.specs.Text.{textOf, reading as readingText}
-use Rattle.packet.specs.Reading.{reading as readingPacket}
+use Rattle.packet_read.specs.Reading.{limited, reading as readingPacket}
 use Rattle.wire_value.specs.Layout.{rowWords}
 use Rattle.wire.specs.Reading.{reading as readingRowset}
 
@@ -56,9 +56,9 @@ examples =
     ∷ accepted 0 (rowWords nullRow 1 8) is accepted 0 ((2 ^ 64 - 1) ∷ [])
     ∷ readingRowset emptyRow 1 0 is accepted 0 (1 ∷ 0 ∷ [])
     ∷ accepted 0 (rowWords emptyRow 1 8) is accepted 0 (0 ∷ [])
-    ∷ readingPacket ack 0 65536 0 is accepted 36 (1 ∷ 0 ∷ 1 ∷ 2 ∷ 3 ∷ 4 ∷ 0 ∷ [])
-    ∷ readingPacket (take 35 ack) 0 65536 0 is more
-    ∷ readingPacket message 43 65536 0 is refuse 8 (44 ∷ 43 ∷ [])
+    ∷ readingPacket ack (limited 0 65536 []) is accepted 36 (1 ∷ 0 ∷ 1 ∷ 2 ∷ 3 ∷ 4 ∷ 0 ∷ [])
+    ∷ readingPacket (take 35 ack) (limited 0 65536 []) is more
+    ∷ readingPacket message (limited 43 65536 []) is refuse 8 (44 ∷ 43 ∷ [])
     ∷ []
 
 -- whether two answers are one and the same

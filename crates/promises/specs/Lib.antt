@@ -2,8 +2,10 @@
 pub mod Acceptance
 pub mod Checksum
 pub mod Damage
+pub mod Parts
 pub mod RoundTrip
 pub mod Rowsets
 pub mod Guids
 pub mod Examples
 pub mod TablesKeep
+pub mod Refuted

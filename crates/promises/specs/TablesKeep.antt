@@ -1,5 +1,5 @@
--- Demand 1, its second sentence: a refusal or need-more changes no lent table or buffer. The statements are those that the
--- contracts of the functions cite by name. Assumes nothing.
+-- Demand 1, its second sentence: a refusal or need-more changes no lent table or buffer. The statements are those that
+-- the contracts of the functions cite by name. Assumes nothing.
 use Prim.Native.Nat.{ℕ, _*_}
 use mathlib.Core.List.{List}
 use mathlib.Core.Path.{_≡_}
@@ -8,14 +8,15 @@ use Rattle.words.specs.Answer.{NotTaken}
 use Rattle.guid.specs.declared.Guid.{Guid}
 use Rattle.guid.specs.declared.Printed.the-variants as printed
 use Rattle.guid.specs.Statement.{Prints}
-use Rattle.packet.specs.declared.Decoded.{Decoded}
+use Rattle.packet_read.specs.declared.Decoded.{Decoded}
 use Rattle.packet.specs.declared.PacketType.{PacketType}
 use Rattle.packet.specs.declared.PacketFlags.{PacketFlags}
 use Rattle.packet.specs.declared.PacketError.{PacketError}
 use Rattle.packet.specs.Layout.{count}
-use Rattle.packet.specs.Reading.{entryWords}
-use Rattle.packet.specs.Paper.{paper}
-use Rattle.packet.specs.Statement.{Decodes}
+use Rattle.packet.specs.Entries.{entryWords}
+use Rattle.packet_read.specs.Paper.{paper}
+use Rattle.packet_read.specs.Reading.{Limits}
+use Rattle.packet_read.specs.Statement.{Decodes}
 use Rattle.packet_write.specs.declared.Encoded.the-variants as packets
 use Rattle.packet_write.specs.Statement.{Encodes}
 use Rattle.wire_value.specs.declared.error.WireError.{WireError}
@@ -27,14 +28,15 @@ use Rattle.wire_write.specs.Encode as rowset-write
 -- the reader of packets: what is not taken leaves the table, and what is taken leaves the words past its entries
 abbrev pub PacketTablesKeep : Type 0
 PacketTablesKeep =
-    (s : List ℕ) (limit ceiling : ℕ) (table : List ℕ) (r : Decoded) (after : List ℕ) → Decodes s limit ceiling table r after
+    (s : List ℕ) (limits : Limits) (table : List ℕ) (r : Decoded) (after : List ℕ) → Decodes s limits table r after
     → (NotTaken (paper r) → after ≡ table)
     × (drop (entryWords * count s) after ≡ drop (entryWords * count s) table)
 
 -- the writer of packets
 abbrev pub PacketOutputKeeps : Type 0
 PacketOutputKeeps =
-    (type : PacketType) (flags : PacketFlags) (id : Guid) (area table out : List ℕ) (error : PacketError) (after : List ℕ)
+    (type : PacketType) (flags : PacketFlags) (id : Guid) (area table out : List ℕ)
+    (error : PacketError) (after : List ℕ)
     → Encodes type flags id area table out (packets.Refused error) after → after ≡ out
 
 -- the reader of rowsets, and its two tables

@@ -1,9 +1,9 @@
--- `encode` meets its contract: what `encoded_size` refuses is refused, what has not the room too, and the rest is written.
--- Assumes nothing.
+-- `encode` meets its contract: what `encoded_size` refuses is refused, what has not the room too, and the rest is
+-- written. Assumes nothing.
 use mathlib.Core.Path.{refl}
 use Rattle.packet.specs.Paper.{typeNumber}
-use Rattle.packet_table.proofs.CheckLaws.{sized}
-use Rattle.packet_write.proofs.PacketLaws.{writing-refuses, writing-short, writing-accepts, packet-fits}
+use Rattle.packet_check.proofs.CheckLaws.{sized}
+use Rattle.packet_write.proofs.PacketLaws.{encodes, writing-refuses, writing-short, writing-accepts, packet-fits}
 use lib.ListN.{length}
 use borrow.Author.Needs.{needs}
 use Rattle.packet_write.proofs.encode.Statement.{statement}
@@ -22,14 +22,14 @@ returns : tie.Need-returns
 returns c =
     let start = c .before .before .before .before .before .before .before .before .args in
     let told = rw (c .before .before .needed .given .1) at (c .before .before .before .before .encoded-size .ensures) in
-    record { answer = writing-short (typeNumber (start .packet-type)) (start .area .now) (start .parts .now) (length (start .out .now)) told (c .if1 .taken); output = refl }
+    encodes (writing-short (typeNumber (start .packet-type)) (start .area .now) (start .parts .now) (length (start .out .now)) told (c .if1 .taken)) refl
 
 write-packet-requires : tie.Need-write-packet-requires
 write-packet-requires c κs =
     let start = c .before .before .before .before .before .before .before .before .before .args in
     let told = rw (c .before .before .before .needed .given .1) at (c .before .before .before .before .before .encoded-size .ensures) in (
       sized (start .area .now) (start .parts .now) (typeNumber (start .packet-type)) told .0,
-      packet-fits (typeNumber (start .packet-type)) (start .area .now) (start .parts .now) (length (start .out .now)) told (start .flags .0) (start .id .w0) (start .id .w1) (start .id .w2) (start .id .w3) (c .before .if1 .left),
+      packet-fits (typeNumber (start .packet-type)) (start .area .now) (start .parts .now) (length (start .out .now)) told (start .flags .0) (start .id) (c .before .if1 .left),
     )
 
 returns-2 : tie.Need-returns-2
@@ -37,7 +37,7 @@ returns-2 c =
     let start = c .before .before .before .before .before .before .before .args in
     let told = rw (c .before .error .given .1) at (c .before .before .before .encoded-size .ensures) in
     let error = c .before .error .given .0 .0 in
-    record { answer = writing-refuses (typeNumber (start .packet-type)) (start .area .now) (start .parts .now) (length (start .out .now)) error told; output = refl }
+    encodes (writing-refuses (typeNumber (start .packet-type)) (start .area .now) (start .parts .now) (length (start .out .now)) error told) refl
 
 same-length : tie.Need-same-length
 same-length c = search needs
@@ -46,7 +46,7 @@ returns-3 : tie.Need-returns-3
 returns-3 c =
     let start = c .before .before .before .before .before .before .before .before .before .before .before .before .args in
     let told = rw (c .before .before .before .before .before .before .needed .given .1) at (c .before .before .before .before .before .before .before .before .encoded-size .ensures) in
-    record { answer = writing-accepts (typeNumber (start .packet-type)) (start .area .now) (start .parts .now) (length (start .out .now)) told (c .before .before .before .before .if1 .left); output = c .before .before .write-packet .ensures }
+    encodes (writing-accepts (typeNumber (start .packet-type)) (start .area .now) (start .parts .now) (length (start .out .now)) told (c .before .before .before .before .if1 .left)) (c .before .before .write-packet .ensures)
 
 pub encode-spec : {M : Type 1} → statement M
 encode-spec =

@@ -1,7 +1,7 @@
 -- `size_word` meets its contract: a length that is not too large fits the word. Assumes nothing.
 use mathlib.Core.Path.{sym, _∙_}
 use native.Mathlib.Omega.{arith}
-use Rattle.packet_table.proofs.WireLaws.{taken-most}
+use Rattle.packet_check.proofs.WireLaws.{taken-most}
 use borrow.Author.Needs.{needs}
 use Rattle.packet_write.proofs.size_word.Statement.{statement}
 use Rattle.packet_write.proofs.size_word.Tie as tie

@@ -4,7 +4,7 @@ use Prim.Native.Nat.{ℕ, _*_, _-_}
 use native.Mathlib.Omega.{arith}
 use lib.ListN.{length}
 use borrow.Rule.Slice.PartMut.{putMid}
-use Rattle.packet.specs.Reading.{room}
+use Rattle.packet.specs.Entries.{room}
 use Rattle.packet_write.proofs.FillingLaws.{place}
 use Rattle.packet_write.proofs.BodyLaws.{Sized, Summed, Guarded, body-room, sizes-written, sums-written, guard-written, contents-written, sums-room, guard-room, contents-room}
 use borrow.Author.Needs.{needs}

@@ -1,4 +1,5 @@
--- `write_contents` meets its contract. The invariant: the parts from `index` on are still to be written. Assumes nothing.
+-- `write_contents` meets its contract. The invariant: the parts from `index` on are still to be written. Assumes
+-- nothing.
 use mathlib.Core.Path.{_≡_, sym, _∙_, ap}
 use mathlib.Core.List.{List, _++_}
 use Prim.Native.Nat.{ℕ, _+_, _≤_, _-_}
@@ -6,8 +7,8 @@ use native.Mathlib.Nat.{sub-zero}
 use native.Mathlib.Omega.{arith}
 use borrow.Author.Needs.{needs}
 use lib.ListN.{length, length-append}
-use Rattle.packet.specs.Reading.{room}
-use Rattle.packet_table.specs.Wire.{contents, content, partAt, partsFrom, partsOf}
+use Rattle.packet.specs.Entries.{room}
+use Rattle.packet.specs.Wire.{contents, content, partAt, partsFrom, partsOf}
 use Rattle.words.specs.Filling.{Filling}
 use Rattle.packet_write.proofs.FillingLaws.{begins, place, room-left, length-now, step, leaves, ends}
 use Rattle.packet_write.proofs.PieceLaws.{parts-next, parts-end, lent-content}
@@ -52,7 +53,7 @@ later c =
     contents (partsFrom (c .before .before .before .before .before .before .args .area .now) (c .before .before .before .before .before .before .args .parts .now) next (room (c .before .before .before .before .before .before .args .parts .now) - next))
 
 is-part : (c : tie.After-part Inv-loop μ-loop) → c .part .result .now ≡ here c
-is-part c = c .part .ensures ∙ lent-content (c .before .before .before .before .before .before .args .area .now) (c .before .before .before .before .before .before .args .parts .now) (c .before .before .before .before .before .before .pre .0) (c .before .before .loop .index) (search needs)
+is-part c = c .part .ensures .bytes ∙ lent-content (c .before .before .before .before .before .before .args .area .now) (c .before .before .before .before .before .before .args .parts .now) (c .before .before .before .before .before .before .pre .0) (c .before .before .loop .index) (search needs)
 
 at-part : (c : tie.After-part Inv-loop μ-loop)
     → Filling (contents (partsOf (c .before .before .before .before .before .before .args .area .now) (c .before .before .before .before .before .before .args .parts .now))) (here c ++ later c) (c .before .before .before .before .before .before .args .out .now) (c .before .before .loop .out) (c .before .before .loop .at)

@@ -3,12 +3,13 @@ use mathlib.Core.Path.{refl}
 use mathlib.Core.List.{List, _++_}
 use Prim.Native.Nat.{ℕ}
 use Rattle.words.specs.Word.{bytesOf}
-use Rattle.packet.specs.Layout.{packetSignature}
+use Rattle.guid.specs.Guid.{wireBytes}
+use Rattle.guid.proofs.WireLaws.{length-wire}
+use Rattle.packet.specs.Layout.{packetSignature, flagsAt, idAt, countAt}
 use Rattle.packet.specs.Paper.{typeNumber}
-use Rattle.packet_table.specs.Wire.{idBytes, fixedFields}
-use Rattle.packet_write.specs.Paper.{idWords}
-use Rattle.packet_write.proofs.FillingLaws.{word-opens, word-step, step, word-closes}
-use Rattle.packet_write.proofs.PieceLaws.{length-id, length-fixed}
+use Rattle.packet.specs.Wire.{fixedFields}
+use Rattle.packet_write.proofs.FillingLaws.{word-opens, word-step, leaves, step, word-closes}
+use Rattle.packet_write.proofs.PieceLaws.{length-fixed}
 use borrow.Author.Needs.{needs}
 use Rattle.packet_write.proofs.write_fields.Statement.{statement}
 use Rattle.packet_write.proofs.write_fields.Tie as tie
@@ -43,17 +44,17 @@ part-write-u16-end-2 c = search needs
 write-u16-requires-2 : tie.Need-write-u16-requires-2
 write-u16-requires-2 c κs = search needs
 
-sub-write-id : tie.Need-sub-write-id
-sub-write-id c = search needs
+sub-write : tie.Need-sub-write
+sub-write c = search needs
 
-part-write-id-start : tie.Need-part-write-id-start
-part-write-id-start c = search needs
+part-write-start : tie.Need-part-write-start
+part-write-start c = search needs
 
-part-write-id-end : tie.Need-part-write-id-end
-part-write-id-end c = search needs
+part-write-end : tie.Need-part-write-end
+part-write-end c = search needs
 
-write-id-requires : tie.Need-write-id-requires
-write-id-requires c κs = search needs
+write-requires : tie.Need-write-requires
+write-requires c κs = search needs
 
 sub-write-u32 : tie.Need-sub-write-u32
 sub-write-u32 c = search needs
@@ -83,12 +84,13 @@ returns c =
     let id = start .args .id in
     let count : ℕ = start .args .count in
     let behind-3 : List ℕ = bytesOf 4 count in
-    let behind-2 : List ℕ = idBytes (idWords id) ++ behind-3 in
+    let behind-2 : List ℕ = wireBytes id ++ behind-3 in
     let behind-1 : List ℕ = bytesOf 2 flags ++ behind-2 in
-    let one = word-opens 4 packetSignature (bytesOf 2 type ++ behind-1) (rw (length-fixed type flags (id .w0) (id .w1) (id .w2) (id .w3) count) (start .pre)) (first .before .before .write-u32 .ensures) in
-    let two = word-step 2 type behind-1 6 one refl (rw (second .before .before .before .type-number .ensures) at (second .before .before .write-u16 .ensures)) in
-    let three = word-step 2 flags behind-2 8 two refl (third .before .before .write-u162 .ensures) in
-    let four = step (idBytes (idWords id)) behind-3 24 three (rw (length-id (id .w0) (id .w1) (id .w2) (id .w3))) (fourth .before .before .write-id .ensures) in
+    let one = word-opens 4 packetSignature (bytesOf 2 type ++ behind-1) (rw (length-fixed type flags id count) (start .pre)) (first .before .before .write-u32 .ensures) in
+    let two = word-step 2 type behind-1 flagsAt one refl (rw (second .before .before .before .type-number .ensures) at (second .before .before .write-u16 .ensures)) in
+    let three = word-step 2 flags behind-2 idAt two refl (third .before .before .write-u162 .ensures) in
+    let written = leaves (wireBytes id) behind-3 three (fourth .before .before .write .ensures) in
+    let four = step (wireBytes id) behind-3 countAt three (rw (length-wire id)) written in
     word-closes 4 count four (c .before .before .write-u322 .ensures)
 
 pub write-fields-spec : {M : Type 1} → statement M
@@ -105,10 +107,10 @@ write-fields-spec =
     part-write-u16-start-2
     part-write-u16-end-2
     write-u16-requires-2
-    sub-write-id
-    part-write-id-start
-    part-write-id-end
-    write-id-requires
+    sub-write
+    part-write-start
+    part-write-end
+    write-requires
     sub-write-u32
     part-write-u32-start
     part-write-u32-end

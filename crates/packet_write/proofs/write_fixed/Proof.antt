@@ -1,8 +1,7 @@
 -- `write_fixed` meets its contract: the fields, and their checksum behind them. Assumes nothing.
 use Prim.Native.Nat.{ℕ}
 use Rattle.packet.specs.Paper.{typeNumber}
-use Rattle.packet_table.specs.Wire.{fixedFields}
-use Rattle.packet_write.specs.Paper.{idWords}
+use Rattle.packet.specs.Wire.{fixedFields}
 use Rattle.packet_write.proofs.FillingLaws.{sealed-over}
 use Rattle.packet_write.proofs.PieceLaws.{length-fixed}
 use borrow.Author.Needs.{needs}
@@ -25,7 +24,7 @@ returns c =
     let type : ℕ = typeNumber (start .args .packet-type) in
     let flags : ℕ = start .args .flags .0 in
     let count : ℕ = start .args .count in
-    sealed-over (fixedFields type flags (idWords id) count) (start .args .out .now) (length-fixed type flags (id .w0) (id .w1) (id .w2) (id .w3) count) (start .pre .1) (c .before .before .before .before .before .before .write-fields .ensures) (c .before .before .seal .ensures)
+    sealed-over (fixedFields type flags id count) (start .args .out .now) (length-fixed type flags id count) (start .pre .1) (c .before .before .before .before .before .before .write-fields .ensures) (c .before .before .seal .ensures)
 
 pub write-fixed-spec : {M : Type 1} → statement M
 write-fixed-spec = tie.close (tie.spec write-fields-requires seal-requires same-length returns)

@@ -2,7 +2,7 @@
 use mathlib.Core.Path.{sym, _∙_}
 use native.Mathlib.Omega.{arith}
 use Rattle.packet.specs.Paper.{typeNumber}
-use Rattle.packet_table.specs.Wire.{body, partsOf}
+use Rattle.packet.specs.Wire.{body, partsOf}
 use Rattle.words.specs.Filling.{Filling}
 use Rattle.packet_write.specs.Statement.{bytesFor}
 use Rattle.packet_write.proofs.FillingLaws.{place, closes, mid-room}
@@ -20,7 +20,7 @@ cast-write-fixed c = search needs
 write-fixed-requires : tie.Need-write-fixed-requires
 write-fixed-requires c κs =
     let start = c .before .before .before .before .before .before in
-    (c .before .before .table .ensures, header-room (typeNumber (start .args .packet-type)) (start .args .flags .0) (start .args .id .w0) (start .args .id .w1) (start .args .id .w2) (start .args .id .w3) (start .args .area .now) (start .args .parts .now) (start .args .out .now) (start .pre .1))
+    (c .before .before .table .ensures, header-room (typeNumber (start .args .packet-type)) (start .args .flags .0) (start .args .id) (start .args .area .now) (start .args .parts .now) (start .args .out .now) (start .pre .1))
 
 has-variable-header-requires : tie.Need-has-variable-header-requires
 has-variable-header-requires c κs = search needs
@@ -29,7 +29,7 @@ has-variable-header-requires c κs = search needs
 at-body : (c : tie.After-table3) → Filling (bytesFor (c .before .before .before .before .before .before .before .before .before .before .before .before .args .packet-type) (c .before .before .before .before .before .before .before .before .before .before .before .before .args .flags) (c .before .before .before .before .before .before .before .before .before .before .before .before .args .id) (c .before .before .before .before .before .before .before .before .before .before .before .before .args .area .now) (c .before .before .before .before .before .before .before .before .before .before .before .before .args .parts .now)) (body (partsOf (c .before .before .before .before .before .before .before .before .before .before .before .before .args .area .now) (c .before .before .before .before .before .before .before .before .before .before .before .before .args .parts .now))) (c .before .before .before .before .before .before .before .before .before .before .before .before .args .out .now) (c .before .before .before .before .before .write-fixed .last .1 .1 .1 .1 .1 .0) 36
 at-body c =
     let start = c .before .before .before .before .before .before .before .before .before .before .before .before in
-    header-first (typeNumber (start .args .packet-type)) (start .args .flags .0) (start .args .id .w0) (start .args .id .w1) (start .args .id .w2) (start .args .id .w3) (start .args .area .now) (start .args .parts .now) (start .args .out .now) (start .pre .1) (c .before .before .before .before .before .write-fixed .ensures) (sym (c .before .before .has-variable-header .ensures) ∙ c .before .if1 .taken)
+    header-first (typeNumber (start .args .packet-type)) (start .args .flags .0) (start .args .id) (start .args .area .now) (start .args .parts .now) (start .args .out .now) (start .pre .1) (c .before .before .before .before .before .write-fixed .ensures) (sym (c .before .before .has-variable-header .ensures) ∙ c .before .if1 .taken)
 
 sub-write-body : tie.Need-sub-write-body
 sub-write-body c = place (at-body c)
@@ -59,7 +59,7 @@ same-length-2 c = search needs
 returns-2 : tie.Need-returns-2
 returns-2 c =
     let start = c .before .before .before .before .before .before .before .before .before .before .before in
-    header-all (typeNumber (start .args .packet-type)) (start .args .flags .0) (start .args .id .w0) (start .args .id .w1) (start .args .id .w2) (start .args .id .w3) (start .args .area .now) (start .args .parts .now) (start .args .out .now) (start .pre .1) (c .before .before .before .before .write-fixed .ensures) (sym (c .before .has-variable-header .ensures) ∙ c .if1 .left)
+    header-all (typeNumber (start .args .packet-type)) (start .args .flags .0) (start .args .id) (start .args .area .now) (start .args .parts .now) (start .args .out .now) (start .pre .1) (c .before .before .before .before .write-fixed .ensures) (sym (c .before .has-variable-header .ensures) ∙ c .if1 .left)
 
 pub write-packet-spec : {M : Type 1} → statement M
 write-packet-spec =

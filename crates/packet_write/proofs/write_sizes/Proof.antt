@@ -5,10 +5,10 @@ use Prim.Native.Nat.{ℕ, _+_, _*_, _≤_, _-_}
 use native.Mathlib.Nat.{sub-zero}
 use native.Mathlib.Omega.{arith}
 use borrow.Author.Needs.{needs}
-use Rattle.packet.specs.Reading.{room}
-use Rattle.packet_table.specs.Entries.{offsetAt, sizeAt}
-use Rattle.packet_table.proofs.WireLaws.{small-at}
-use Rattle.packet_write.specs.Filling.{entrySize, entrySizes}
+use Rattle.packet.specs.Entries.{room}
+use Rattle.packet.specs.Entries.{offsetAt, sizeAt}
+use Rattle.packet_check.proofs.WireLaws.{small-at}
+use Rattle.packet_write.specs.Stages.{entrySize, entrySizes}
 use Rattle.words.specs.Filling.{Filling}
 use Rattle.packet_write.proofs.FillingLaws.{begins, place, length-now, word-step, ends}
 use Rattle.packet_write.proofs.PieceLaws.{entries-next, entries-end, length-entries}

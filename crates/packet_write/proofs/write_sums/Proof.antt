@@ -10,10 +10,10 @@ use lib.ListN.{length}
 use Rattle.words.specs.Word.{Bytes}
 use Rattle.crc64.specs.Polynomial.{checksum}
 use Rattle.crc64.proofs.Entries.{checksum-over-is}
-use Rattle.packet.specs.Reading.{room}
-use Rattle.packet_table.specs.Entries.{lentAt}
-use Rattle.packet_table.specs.Wire.{sums, sumWord, partAt, partsFrom, partsOf}
-use Rattle.packet_table.proofs.WireLaws.{length-parts}
+use Rattle.packet.specs.Entries.{room}
+use Rattle.packet.specs.Entries.{lentAt}
+use Rattle.packet.specs.Wire.{sums, sumWord, partAt, partsFrom, partsOf}
+use Rattle.packet_check.proofs.WireLaws.{length-parts}
 use Rattle.words.specs.Filling.{Filling}
 use Rattle.packet_write.proofs.FillingLaws.{begins, place, length-now, word-step, ends}
 use Rattle.packet_write.proofs.PieceLaws.{bytes-lent, length-sums, parts-next, parts-end, lent-content, sum-content}
@@ -70,7 +70,7 @@ loop-again c =
     let table : List ℕ = start .args .parts .now in
     let known : Bytes area = λ i. c .before .before .before .before .before .before .before .before .before .before .shared-slice-known .given i .fits in
     let below : at .index < room table = search needs in
-    let over = rw (c .before .before .before .before .before .part .ensures) at (c .before .before .before .before .checksum-over .ensures) in
+    let over = rw (c .before .before .before .before .before .part .ensures .bytes) at (c .before .before .before .before .checksum-over .ensures) in
     let sum = checksum-over-is (lentAt area table (at .index)) (start .pre .0) over (bytes-lent area table (at .index) known)
     ∙ ap (λ (bs : List ℕ). checksum bs) (lent-content area table (start .pre .1 .0) (at .index) below) ∙ sym (sum-content (partAt area table (at .index))) in
     let filling = rw (parts-next area table (at .index) (room table) below) at (at .inv .1) in

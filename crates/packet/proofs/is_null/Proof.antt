@@ -1,0 +1,13 @@
+-- `is_null` meets its contract. Assumes nothing.
+use borrow.Author.Tests.{eq-eqb, ne-eqb}
+use Rattle.packet.proofs.is_null.Statement.{statement}
+use Rattle.packet.proofs.is_null.Tie as tie
+
+returns : tie.Need-returns
+returns c = simp (eq-eqb _ _ (c .if1 .taken))
+
+returns-2 : tie.Need-returns-2
+returns-2 c = simp (ne-eqb _ _ (c .if1 .left))
+
+pub is-null-spec : {M : Type 1} → statement M
+is-null-spec = tie.close (tie.spec returns returns-2)

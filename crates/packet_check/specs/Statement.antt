@@ -1,0 +1,25 @@
+-- What each public function promises, by name. A lent area or table is read, and left as it was. Assumes nothing.
+use Prim.Native.Nat.{ℕ}
+use mathlib.Core.List.{List}
+use Rattle.words.specs.Statement.{Means}
+use Rattle.words.specs.Paper.{Tells}
+use Rattle.words.specs.declared.outcome.Outcome.{Outcome}
+use Rattle.packet.specs.declared.PacketType.{PacketType}
+use Rattle.packet.specs.Paper.{typeNumber}
+use Rattle.packet_check.specs.declared.Validated.{Validated}
+use Rattle.packet_check.specs.declared.Measured.{Measured}
+use Rattle.packet_check.specs.Checks.{validating, sizing}
+use Rattle.packet_check.specs.Paper.{paperValidated, paperMeasured}
+
+abbrev pub Validates : List ℕ → List ℕ → Validated → Type 0
+Validates area table r = Means paperValidated (validating area table) r
+
+abbrev pub Measures : PacketType → List ℕ → List ℕ → Measured → Type 0
+Measures type area table r = Means paperMeasured (sizing area table (typeNumber type)) r
+
+-- the answers in words
+abbrev pub TellsValidated : Validated → Outcome → Type 0
+TellsValidated answer r = Tells (paperValidated answer) r
+
+abbrev pub TellsMeasured : Measured → Outcome → Type 0
+TellsMeasured answer r = Tells (paperMeasured answer) r

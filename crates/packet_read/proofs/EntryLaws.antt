@@ -1,0 +1,63 @@
+-- What filling the table keeps. Assumes nothing.
+use mathlib.Core.Path.{_≡_, refl, sym, _∙_, ap}
+use mathlib.Core.Bool.{Bool, true, false}
+use mathlib.Core.List.{List, [], _∷_, _++_, append-nil, append-assoc}
+use Prim.Native.Nat.{ℕ, zero, suc, _+_, _*_, _≤_}
+use native.Mathlib.Nat.{zero-add, add-zero}
+use native.Mathlib.Omega.{arith}
+use lib.ListN.{length, set, length-append}
+use Rattle.words.specs.Buffer.{over}
+use Rattle.words.specs.Decide.{pick, _=?_}
+use Rattle.words.proofs.BufferLaws.{over-store, length-over}
+use Rattle.packet.specs.Layout.{nullSize, size, isNull, start}
+use Rattle.packet.specs.Entries.{entryWords, nullLength, entry, entriesFrom}
+
+module _ (s : List ℕ) (n : ℕ) where
+  pub entries-more : (j i : ℕ) → entriesFrom s n j (i + 1) ≡ entriesFrom s n j i ++ entry s n (j + i)
+  unfolding entriesFrom
+  entries-more j zero = append-nil (entry s n j) ∙ ap (entry s n) (sym (add-zero j))
+  entries-more j (suc i) =
+      let one-more : suc i + 1 ≡ suc (i + 1) = omega arith in
+      let same : j + 1 + i ≡ j + suc i = omega arith in
+      ap (entriesFrom s n j) one-more ∙ ap (λ (l : List ℕ). entry s n j ++ l) (entries-more (j + 1) i)
+      ∙ sym (append-assoc (entry s n j) (entriesFrom s n (j + 1) i) (entry s n (j + 1 + i)))
+      ∙ ap (λ (k : ℕ). entry s n j ++ entriesFrom s n (j + 1) i ++ entry s n k) same
+
+  length-entry : (i : ℕ) → length (entry s n i) ≡ 2
+  length-entry i = go (isNull s i)
+    where
+      go : (b : Bool) → length (pick b (0 ∷ nullLength ∷ []) (start s n i ∷ size s i ∷ [])) ≡ 2
+      go true = refl
+      go false = refl
+
+  pub length-entries : (j i : ℕ) → length (entriesFrom s n j i) ≡ 2 * i
+  unfolding entriesFrom
+  length-entries j zero = refl
+  length-entries j (suc i) = rw (length-append, length-entry j, length-entries (j + 1) i) (omega arith)
+
+  -- the two words of part i
+  entry-words : (i at found o l : ℕ) → at ≡ start s n i → found ≡ size s i → o ≡ pick (found =? nullSize) 0 at → l ≡ pick (found =? nullSize) nullLength found
+      → entry s n i ≡ o ∷ l ∷ []
+  entry-words i at found o l place read offset-is length-is = rw (offset-is, length-is, ← place, ← read) (go (found =? nullSize))
+    where
+      go : (b : Bool) → pick b (0 ∷ nullLength ∷ []) (at ∷ found ∷ []) ≡ pick b 0 at ∷ pick b nullLength found ∷ []
+      go true = refl
+      go false = refl
+
+  module _ (i at found o l : ℕ) (now table : List ℕ) (place : at ≡ start s n i) (read : found ≡ size s i)
+      (offset-is : o ≡ pick (found =? nullSize) 0 at) (length-is : l ≡ pick (found =? nullSize) nullLength found)
+      (so-far : now ≡ over (entriesFrom s n 0 i) table) (room : 2 * i + 2 ≤ length table) where
+    pub entries-step : set (set now (2 * i) o) (2 * i + 1) l ≡ over (entriesFrom s n 0 (i + 1)) table
+    entries-step =
+        let long : length (entriesFrom s n 0 i) ≡ 2 * i = length-entries 0 i in
+        let done : List ℕ = entriesFrom s n 0 i in
+        let longer : length (done ++ (o ∷ [])) ≡ 2 * i + 1 = length-append done (o ∷ []) ∙ ap (λ (k : ℕ). k + 1) long in
+        let all : done ++ (o ∷ []) ++ (l ∷ []) ≡ entriesFrom s n 0 (i + 1) =
+        append-assoc done (o ∷ []) (l ∷ []) ∙ ap (λ (w : List ℕ). done ++ w) (sym (entry-words i at found o l place read offset-is length-is) ∙ ap (entry s n) (sym (zero-add i))) ∙ sym (entries-more 0 i) in
+        ap (λ (w : List ℕ). set (set w (2 * i) o) (2 * i + 1) l) so-far
+        ∙ ap (λ (w : List ℕ). set w (2 * i + 1) l) (over-store done table (2 * i) o 0 long (omega arith))
+        ∙ over-store (done ++ (o ∷ [])) table (2 * i + 1) l 0 longer (omega arith)
+        ∙ ap (λ (w : List ℕ). over w table) all
+
+  pub length-filled : (i : ℕ) (now table : List ℕ) → now ≡ over (entriesFrom s n 0 i) table → 2 * i ≤ length table → length now ≡ length table
+  length-filled i now table so-far room = ap length so-far ∙ length-over (entriesFrom s n 0 i) table (rw (length-entries 0 i) room)
