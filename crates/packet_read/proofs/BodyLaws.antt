@@ -22,7 +22,7 @@ use Rattle.packet_read.specs.declared.Decoded.the-variants as Decoded
 use Rattle.packet_read.specs.declared.Fixed.the-variants as Fixed
 use Rattle.packet_read.specs.declared.Variable.the-variants as Variable
 use Rattle.packet_read.specs.declared.Parts.the-variants.{Failing, Good}
-use Rattle.packet_read.specs.Reading.{Limits, limited, reading, fixedLines, countLines, partLines, roomLines}
+use Rattle.packet_read.specs.Reading.{Limits, limited, reading, fixedLines, countLines, roomLines}
 use Rattle.packet_read.specs.Paper.{paper}
 use Rattle.packet_read.specs.Statement.{Decodes}
 use Rattle.packet_read.specs.Stages.{through, behind, FixedStage, VariableStage, PartsStage, BodyStage}

@@ -2,10 +2,11 @@
 use mathlib.Core.Path.{_≡_, refl, sym, _∙_, ap}
 use mathlib.Core.Bool.{Bool, true, false}
 use mathlib.Core.List.{List, [], _∷_, _++_, append-nil, append-assoc}
-use Prim.Native.Nat.{ℕ, zero, suc, _+_, _*_, _≤_}
+use Prim.Native.Nat.{ℕ, zero, suc, _+_, _*_, _<_, _≤_}
 use native.Mathlib.Nat.{zero-add, add-zero}
 use native.Mathlib.Omega.{arith}
-use lib.ListN.{length, set, length-append}
+use lib.ListN.{length, getD, set, length-append, List·getD-append}
+use lib.Seq.{getD-append-add}
 use Rattle.words.specs.Buffer.{over}
 use Rattle.words.specs.Decide.{pick, _=?_}
 use Rattle.words.proofs.BufferLaws.{over-store, length-over}
@@ -23,17 +24,31 @@ module _ (s : List ℕ) (n : ℕ) where
       ∙ sym (append-assoc (entry s n j) (entriesFrom s n (j + 1) i) (entry s n (j + 1 + i)))
       ∙ ap (λ (k : ℕ). entry s n j ++ entriesFrom s n (j + 1) i ++ entry s n k) same
 
-  length-entry : (i : ℕ) → length (entry s n i) ≡ 2
+  length-entry : (i : ℕ) → length (entry s n i) ≡ entryWords
   length-entry i = go (isNull s i)
     where
-      go : (b : Bool) → length (pick b (0 ∷ nullLength ∷ []) (start s n i ∷ size s i ∷ [])) ≡ 2
+      go : (b : Bool) → length (pick b (0 ∷ nullLength ∷ []) (start s n i ∷ size s i ∷ [])) ≡ entryWords
       go true = refl
       go false = refl
 
-  pub length-entries : (j i : ℕ) → length (entriesFrom s n j i) ≡ 2 * i
+  pub length-entries : (j i : ℕ) → length (entriesFrom s n j i) ≡ entryWords * i
   unfolding entriesFrom
   length-entries j zero = refl
   length-entries j (suc i) = rw (length-append, length-entry j, length-entries (j + 1) i) (omega arith)
+
+  -- word w of entry i, of k entries from part j on
+  pub words-at : (j k i w : ℕ) → w < entryWords → i < k → getD (entriesFrom s n j k) (entryWords * i + w) 0 ≡ getD (entry s n (j + i)) w 0
+  unfolding entriesFrom
+  words-at j zero i w hw h = absurd (omega arith)
+  words-at j (suc k) zero w hw h =
+      ap (λ (m : ℕ). getD (entry s n j ++ entriesFrom s n (j + 1) k) m 0) (omega arith)
+      ∙ List·getD-append (entry s n j) (entriesFrom s n (j + 1) k) 0 w (rw (length-entry j) hw)
+      ∙ ap (λ (m : ℕ). getD (entry s n m) w 0) (sym (add-zero j))
+  words-at j (suc k) (suc i) w hw h =
+      ap (λ (m : ℕ). getD (entry s n j ++ entriesFrom s n (j + 1) k) m 0) (omega (arith, length-entry j))
+      ∙ getD-append-add (entry s n j) (entriesFrom s n (j + 1) k) (entryWords * i + w) 0
+      ∙ words-at (j + 1) k i w hw (omega arith)
+      ∙ ap (λ (m : ℕ). getD (entry s n m) w 0) (omega arith)
 
   -- the two words of part i
   entry-words : (i at found o l : ℕ) → at ≡ start s n i → found ≡ size s i → o ≡ pick (found =? nullSize) 0 at → l ≡ pick (found =? nullSize) nullLength found
@@ -46,18 +61,18 @@ module _ (s : List ℕ) (n : ℕ) where
 
   module _ (i at found o l : ℕ) (now table : List ℕ) (place : at ≡ start s n i) (read : found ≡ size s i)
       (offset-is : o ≡ pick (found =? nullSize) 0 at) (length-is : l ≡ pick (found =? nullSize) nullLength found)
-      (so-far : now ≡ over (entriesFrom s n 0 i) table) (room : 2 * i + 2 ≤ length table) where
-    pub entries-step : set (set now (2 * i) o) (2 * i + 1) l ≡ over (entriesFrom s n 0 (i + 1)) table
+      (so-far : now ≡ over (entriesFrom s n 0 i) table) (room : entryWords * i + entryWords ≤ length table) where
+    pub entries-step : set (set now (entryWords * i) o) (entryWords * i + 1) l ≡ over (entriesFrom s n 0 (i + 1)) table
     entries-step =
-        let long : length (entriesFrom s n 0 i) ≡ 2 * i = length-entries 0 i in
+        let long : length (entriesFrom s n 0 i) ≡ entryWords * i = length-entries 0 i in
         let done : List ℕ = entriesFrom s n 0 i in
-        let longer : length (done ++ (o ∷ [])) ≡ 2 * i + 1 = length-append done (o ∷ []) ∙ ap (λ (k : ℕ). k + 1) long in
+        let longer : length (done ++ (o ∷ [])) ≡ entryWords * i + 1 = length-append done (o ∷ []) ∙ ap (λ (k : ℕ). k + 1) long in
         let all : done ++ (o ∷ []) ++ (l ∷ []) ≡ entriesFrom s n 0 (i + 1) =
         append-assoc done (o ∷ []) (l ∷ []) ∙ ap (λ (w : List ℕ). done ++ w) (sym (entry-words i at found o l place read offset-is length-is) ∙ ap (entry s n) (sym (zero-add i))) ∙ sym (entries-more 0 i) in
-        ap (λ (w : List ℕ). set (set w (2 * i) o) (2 * i + 1) l) so-far
-        ∙ ap (λ (w : List ℕ). set w (2 * i + 1) l) (over-store done table (2 * i) o 0 long (omega arith))
-        ∙ over-store (done ++ (o ∷ [])) table (2 * i + 1) l 0 longer (omega arith)
+        ap (λ (w : List ℕ). set (set w (entryWords * i) o) (entryWords * i + 1) l) so-far
+        ∙ ap (λ (w : List ℕ). set w (entryWords * i + 1) l) (over-store done table (entryWords * i) o 0 long (omega arith))
+        ∙ over-store (done ++ (o ∷ [])) table (entryWords * i + 1) l 0 longer (omega arith)
         ∙ ap (λ (w : List ℕ). over w table) all
 
-  pub length-filled : (i : ℕ) (now table : List ℕ) → now ≡ over (entriesFrom s n 0 i) table → 2 * i ≤ length table → length now ≡ length table
+  pub length-filled : (i : ℕ) (now table : List ℕ) → now ≡ over (entriesFrom s n 0 i) table → entryWords * i ≤ length table → length now ≡ length table
   length-filled i now table so-far room = ap length so-far ∙ length-over (entriesFrom s n 0 i) table (rw (length-entries 0 i) room)

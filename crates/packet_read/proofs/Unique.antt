@@ -1,6 +1,6 @@
 -- One result for each statement. The map to document 01's terms loses nothing, so two answers that it takes to one are
 -- equal. Assumes nothing.
-use mathlib.Core.Path.{_≡_, refl, sym, _∙_, ap}
+use mathlib.Core.Path.{_≡_, refl, ap}
 use mathlib.Core.List.{List}
 use Prim.Native.Nat.{ℕ}
 use Rattle.words.specs.Answer.{Answer, accepted, more, refused}

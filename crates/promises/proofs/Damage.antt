@@ -8,11 +8,11 @@ use Prim.Native.Nat.{ℕ, zero, suc, _+_, _*_, _<_, _≤_}
 use native.Mathlib.Nat.{zero-add}
 use native.Mathlib.Omega.{arith}
 use borrow.Author.Tests.{lt-ltb, ne-eqb}
-use lib.ListN.{length, take, drop}
+use lib.ListN.{length}
 use Rattle.words.specs.Word.{word}
 use Rattle.words.specs.Answer.{Answer, accepted, refuse, NotTaken}
 use Rattle.words.specs.Buffer.{stretch}
-use Rattle.words.specs.Decide.{pick, _=?_, _≠?_, _<?_, decide}
+use Rattle.words.specs.Decide.{pick, _=?_, _≠?_, _<?_}
 use Rattle.words.proofs.DecideLaws.{first-at, first-same}
 use Rattle.crc64.specs.Polynomial.{checksum}
 use Rattle.crc64.specs.Damage.{Damaged}

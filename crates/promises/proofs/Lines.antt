@@ -1,25 +1,17 @@
 -- What an accepted answer says of the reading order: the lines that refuse or ask for more are silent. Assumes nothing.
-use mathlib.Core.Path.{_≡_, refl, sym, _∙_, ap}
-use mathlib.Core.Bool.{Bool, true, false, true≢false}
-use mathlib.Core.List.{List}
-use Prim.Native.Nat.{ℕ, _<_, min}
+use mathlib.Core.Path.{_≡_, refl, _∙_, ap}
+use mathlib.Core.Bool.{true, false}
+use mathlib.Core.List.{List, [], _∷_}
+use Prim.Native.Nat.{ℕ, min}
 use lib.ListN.{length}
-use Rattle.words.specs.Answer.{Answer, accepted, more, refused}
-use Rattle.words.specs.Decide.{pick, _≠?_, _<?_}
+use Rattle.words.specs.Answer.{Answer, accepted, refuse}
+use Rattle.words.specs.Decide.{_≠?_, _<?_, _⇒_}
+use Rattle.words.specs.Note.{answers}
 use Rattle.packet.specs.Layout.{packetSignature, mostParts, lastType, fixedHeaderSize, hasVariableHeader, headers, signature, type, count, fixedSum, fixedFields, fields, variable, variableSum, whole}
 use Rattle.packet_read.specs.Reading.{Limits, fails, firstTooLarge, firstFailing, fixedLines, countLines, variableLines, sizeLines, partLines, roomLines, reading}
 use Rattle.packet_read.specs.Stages.{through, behind}
 use Rattle.packet_read.proofs.OrderLaws.{order-split}
-
-abbrev isAccepted : Answer → Bool
-isAccepted (accepted n f) = true
-isAccepted more = false
-isAccepted (refused number values consumed) = false
-
--- a line whose answer is not an acceptance is silent where the whole list accepts
-silent : (t : Bool) (a b w : Answer) → pick t a b ≡ w → isAccepted w ≡ true → isAccepted a ≡ false → (t ≡ false) × (b ≡ w)
-silent true a b w e good bad = absurd (true≢false (sym good ∙ ap isAccepted (sym e) ∙ bad))
-silent false a b w e good bad = (refl, e)
+use Rattle.packet_check.proofs.CheckLaws.{isAccepted, silent}
 
 -- the tests of the fixed header and of the count
 pub record Before (s : List ℕ) (n : ℕ) (limits : Limits) : Type 0 where
@@ -61,33 +53,27 @@ module _ (s : List ℕ) (n : ℕ) (limits : Limits) where
     pub lines-before : front rest ≡ w → Before s n limits × (through (countLines s n (limits .parts)) rest ≡ w)
     unfolding fixedLines countLines
     lines-before e =
-        let l₀ = silent _ _ _ w e good refl in
-        let l₁ = silent _ _ _ w (l₀ .1) good refl in
-        let l₂ = silent _ _ _ w (l₁ .1) good refl in
-        let l₃ = silent _ _ _ w (l₂ .1) good refl in
-        let l₄ = silent _ _ _ w (l₃ .1) good refl in
-        (record { there = l₀ .0; signed = l₁ .0; known = l₂ .0; guarded = l₃ .0; few = l₄ .0 }, l₃ .1)
+        let fixed = silent (answers (fixedLines s)) (refl, (refl, (refl, (refl, tt)))) e good in
+        let few = silent (min mostParts (limits .parts) <? n ⇒ refuse 3 (n ∷ []) ∷ []) (refl, tt) (fixed .1) good in
+        let t = fixed .0 in
+        (record { there = t .0; signed = t .1 .0; known = t .1 .1 .0; guarded = t .1 .1 .1 .0; few = few .0 .0 }, fixed .1)
 
     lines-rest : rest ≡ w → Behind s n limits
     unfolding variableLines sizeLines partLines roomLines
     lines-rest e =
-        let l₀ = silent _ _ _ w e good refl in
-        let l₁ = silent _ _ _ w (l₀ .1) good refl in
-        let l₂ = silent _ _ _ w (l₁ .1) good refl in
-        let l₃ = silent _ _ _ w (l₂ .1) good refl in
-        let l₄ = silent _ _ _ w (l₃ .1) good refl in
-        let l₅ = silent _ _ _ w (l₄ .1) good refl in
-        let l₆ = silent _ _ _ w (l₅ .1) good refl in
-        let l₇ = silent _ _ _ w (l₆ .1) good refl in
+        let v = silent (answers (variableLines s n (limits .bytes))) (refl, (refl, (refl, tt))) e good in
+        let z = silent (answers (sizeLines s n (limits .bytes))) (refl, (refl, (refl, tt))) (v .1) good in
+        let p = silent (answers (partLines s n)) (refl, tt) (z .1) good in
+        let r = silent (answers (roomLines n (limits .room))) (refl, tt) (p .1) good in
         record {
-          short = l₀ .0;
-          headers-there = l₁ .0;
-          guarded = l₂ .0;
-          sizes = l₃ .0;
-          within = l₄ .0;
-          there = l₅ .0;
-          parts = l₆ .0;
-          roomy = l₇ .0;
+          short = v .0 .0;
+          headers-there = v .0 .1 .0;
+          guarded = v .0 .1 .1 .0;
+          sizes = z .0 .0;
+          within = z .0 .1 .0;
+          there = z .0 .1 .1 .0;
+          parts = p .0 .0;
+          roomy = r .0 .0;
         }
 
     -- with a variable header, every line behind is silent

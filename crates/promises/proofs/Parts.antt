@@ -14,16 +14,15 @@ use Rattle.words.proofs.Unique.{holds-kept}
 use Rattle.words.specs.Buffer.{over, stretch}
 use Rattle.words.specs.Decide.{pick, _=?_}
 use Rattle.words.proofs.BufferLaws.{length-over}
-use Rattle.packet.specs.Layout.{nullSize, largestPart, hasVariableHeader, type, count, fields, size, taken, start, whole}
+use Rattle.packet.specs.Layout.{nullSize, largestPart, type, count, fields, size, taken, start, whole}
 use Rattle.packet.specs.Layout.{isNull}
-use Rattle.packet.specs.Entries.{nullLength, entry, entriesFrom, entries, room}
+use Rattle.packet.specs.Entries.{entryWords, entry, entriesFrom, entries, room}
 use Rattle.packet_read.specs.Reading.{reading}
-use Rattle.packet_read.specs.Paper.{paper}
 use Rattle.packet.specs.Paper.{fieldsOf}
 use Rattle.packet.specs.declared.Packet.{Packet}
 use Rattle.packet_read.specs.declared.Decoded.the-variants.{Read, More}
 use Rattle.packet_read.specs.Statement.{Decodes}
-use Rattle.packet_read.proofs.EntryLaws.{length-entries}
+use Rattle.packet_read.proofs.EntryLaws.{length-entries, words-at}
 use Rattle.packet_read.proofs.SizeLaws.{taken-below}
 use Rattle.packet_read.proofs.Unique.{paper-injective}
 use Rattle.packet.specs.Entries.{offsetAt, sizeAt, nullAt, outsideAt, isLent}
@@ -35,28 +34,6 @@ use Rattle.promises.specs.Parts.{LendsFront, LendsStretch, PartsAreLent,
 use Rattle.promises.proofs.Acceptance.{acceptance}
 use Rattle.promises.proofs.Encoded.{written-reads, written-bytes, written-size, given-valid}
 use Rattle.promises.proofs.Prefix.{strict-prefix}
-
-module _ (s : List ℕ) (n : ℕ) where
-  length-entry : (i : ℕ) → length (entry s n i) ≡ 2
-  length-entry i = go (isNull s i)
-    where
-      go : (b : Bool) → length (pick b (0 ∷ nullLength ∷ []) (start s n i ∷ size s i ∷ [])) ≡ 2
-      go true = refl
-      go false = refl
-
-  -- word w of entry i
-  words-at : (j k i w : ℕ) → w < 2 → i < k → getD (entriesFrom s n j k) (2 * i + w) 0 ≡ getD (entry s n (j + i)) w 0
-  unfolding entriesFrom
-  words-at j zero i w hw h = absurd (omega arith)
-  words-at j (suc k) zero w hw h =
-      ap (λ (m : ℕ). getD (entry s n j ++ entriesFrom s n (j + 1) k) m 0) (omega arith)
-      ∙ List·getD-append (entry s n j) (entriesFrom s n (j + 1) k) 0 w (rw (length-entry j) hw)
-      ∙ ap (λ (m : ℕ). getD (entry s n m) w 0) (sym (add-zero j))
-  words-at j (suc k) (suc i) w hw h =
-      ap (λ (m : ℕ). getD (entry s n j ++ entriesFrom s n (j + 1) k) m 0) (omega (arith, length-entry j))
-      ∙ getD-append-add (entry s n j) (entriesFrom s n (j + 1) k) (2 * i + w) 0
-      ∙ words-at (j + 1) k i w hw (omega arith)
-      ∙ ap (λ (m : ℕ). getD (entry s n m) w 0) (omega arith)
 
 module _ (s table : List ℕ) (i : ℕ) where
   front : isLent s table i ≡ false → LendsFront s table i
@@ -75,14 +52,14 @@ module _ (s table : List ℕ) (n : ℕ) (there : whole s n ≤ length s) (roomy 
   abbrev filled : List ℕ
   filled = over (entriesFrom s n 0 n) table
 
-  word-at : (w : ℕ) → w < 2 → getD filled (2 * i + w) 0 ≡ getD (entry s n i) w 0
+  word-at : (w : ℕ) → w < entryWords → getD filled (entryWords * i + w) 0 ≡ getD (entry s n i) w 0
   word-at w hw =
-      List·getD-append (entriesFrom s n 0 n) (drop (length (entriesFrom s n 0 n)) table) 0 (2 * i + w) (rw (length-entries s n 0 n) (omega arith))
+      List·getD-append (entriesFrom s n 0 n) (drop (length (entriesFrom s n 0 n)) table) 0 (entryWords * i + w) (rw (length-entries s n 0 n) (omega arith))
       ∙ words-at s n 0 n i w hw below
       ∙ ap (λ (m : ℕ). getD (entry s n m) w 0) (zero-add i)
 
   offset-is : offsetAt filled i ≡ getD (entry s n i) 0 0
-  offset-is = ap (λ (m : ℕ). getD filled m 0) (sym (add-zero (2 * i))) ∙ word-at 0 (omega arith)
+  offset-is = ap (λ (m : ℕ). getD filled m 0) (sym (add-zero (entryWords * i))) ∙ word-at 0 (omega arith)
 
   size-is : sizeAt filled i ≡ getD (entry s n i) 1 0
   size-is = word-at 1 (omega arith)

@@ -2,25 +2,24 @@
 use mathlib.Core.Path.{_≡_, refl, sym, _∙_, ap}
 use mathlib.Core.Bool.{Bool, true, false, _&&_}
 use mathlib.Core.List.{List, [], _∷_, _++_}
-use Prim.Native.Nat.{ℕ, zero, suc, _+_, _^_, _≤_, _<_}
+use Prim.Native.Nat.{ℕ, zero, suc, _+_, _≤_, _<_}
 use native.Mathlib.Omega.{arith}
 use borrow.Author.Tests.{ltb-true}
-use lib.ListN.{length, getD, take, drop}
+use lib.ListN.{getD}
 use Rattle.words.specs.Word as Word
 use Rattle.words.specs.Word.{bytesOf, Bytes}
 use Rattle.words.specs.Decide as Decide
 use Rattle.words.specs.Decide.{_<?_}
-use Rattle.words.specs.Answer.{Answer, accepted, more, refused, refuse}
+use Rattle.words.specs.Answer.{Answer, accepted, more, refused}
 use Rattle.crc64.specs.Polynomial as Polynomial
 use Rattle.crc64.specs.Polynomial.{checksum}
 use Rattle.crc64.specs.Damage.{Damaged}
 use Rattle.packet.specs.Layout as Layout
-use Rattle.packet.specs.Layout.{packetSignature, fixedSum}
+use Rattle.packet.specs.Layout.{packetSignature}
 use Rattle.packet_read.specs.Reading as Reading
 use Rattle.packet_read.specs.Reading.{limited, reading}
 use Rattle.packet.specs.Entries as Entries
 use Rattle.guid.specs.Guid.{guidOf, wireBytes}
-use Rattle.packet.specs.declared.PacketType.{PacketType}
 use Rattle.packet.specs.declared.PacketType.the-variants.{Message as Plain, Ack}
 use Rattle.packet.specs.declared.PacketError.the-variants.{Signature}
 use Rattle.packet.specs.declared.Packet.{Packet}
@@ -29,7 +28,7 @@ use Rattle.packet_read.specs.Paper.{paper}
 use Rattle.packet_read.specs.Statement.{Decodes}
 use Rattle.packet.specs.Wire as Wire
 use Rattle.packet.specs.Wire.{sealed}
-use Rattle.promises.specs.Damage.{Stretch, fixedHeader, Inside, Hit, NamedWhere, nothing, DamageHappens}
+use Rattle.promises.specs.Damage.{Stretch, fixedHeader, NamedWhere, nothing, DamageHappens}
 use Rattle.promises.specs.RoundTrip.{Message, Valid, Held}
 use Rattle.promises.specs.Refuted.{HitOfNine, NineBytesAreNamed, HitUnguarded, UnguardedIsNamed, HitPast, PastIsNamed, AlwaysBy5, PrefixOrWhole, RoundTripUnderAnyLimit, CeilingAlone, AcceptanceLeavesTables}
 use Rattle.promises.proofs.Damage.{not-taken}

@@ -20,11 +20,17 @@ number n = accepted 0 (n ∷ [])
 
 -- an Ack, flags 0, id words 1 to 4, no parts, checksum 0
 abbrev pub ack : List ℕ
-ack = bytesOf 4 0x7861_6d4f ++ bytesOf 2 1 ++ bytesOf 2 0 ++ bytesOf 4 1 ++ bytesOf 4 2 ++ bytesOf 4 3 ++ bytesOf 4 4 ++ bytesOf 4 0 ++ bytesOf 8 0
+ack =
+    bytesOf 4 0x7861_6d4f ++ bytesOf 2 1 ++ bytesOf 2 0 ++ bytesOf 4 1 ++ bytesOf 4 2 ++ bytesOf 4 3 ++ bytesOf 4 4
+    ++ bytesOf 4 0
+    ++ bytesOf 8 0
 
 -- a Message without parts, checksum 0
 abbrev pub message : List ℕ
-message = bytesOf 4 0x7861_6d4f ++ bytesOf 2 0 ++ bytesOf 2 0 ++ bytesOf 4 1 ++ bytesOf 4 2 ++ bytesOf 4 3 ++ bytesOf 4 4 ++ bytesOf 4 0 ++ bytesOf 8 0
+message =
+    bytesOf 4 0x7861_6d4f ++ bytesOf 2 0 ++ bytesOf 2 0 ++ bytesOf 4 1 ++ bytesOf 4 2 ++ bytesOf 4 3 ++ bytesOf 4 4
+    ++ bytesOf 4 0
+    ++ bytesOf 8 0
 
 -- count 1, and the null mark; count 1, and count 0
 abbrev pub nullRow : List ℕ

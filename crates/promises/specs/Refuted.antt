@@ -1,11 +1,11 @@
 -- The promises with one word changed, each of which is false: a theorem beside it has the witness. So each of those
 -- words is needed. Assumes nothing.
 use Prim.Native.Nat.{ℕ, _+_, _≤_}
-use mathlib.Core.List.{List, [], _∷_, _++_}
+use mathlib.Core.List.{List, [], _∷_}
 use mathlib.Core.Path.{_≡_}
 use lib.ListN.{length, take}
 use Rattle.words.specs.Word.{Bytes}
-use Rattle.words.specs.Answer.{accepted, more, refuse}
+use Rattle.words.specs.Answer.{more, refuse}
 use Rattle.crc64.specs.Polynomial.{checksum}
 use Rattle.crc64.specs.Damage.{Damaged}
 use Rattle.packet.specs.Layout.{count, fixedSum, fixedFields}
