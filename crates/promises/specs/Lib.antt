@@ -2,6 +2,8 @@
 pub mod Acceptance
 pub mod Damage
 pub mod RoundTrip
+pub mod Content
+pub mod RowsetWriter
 pub mod Rowsets
 pub mod Examples
 pub mod TablesKeep

@@ -14,7 +14,7 @@ use Rattle.wire_write.specs.declared.write.Encoded.the-variants.{Written
 told-written : (m n : ℕ) → accepted m [] ≡ accepted n [] → m ≡ n
 told-written m n same = cc
 
-encoded-one : (r r′ : Encoded) → paperEncoded r ≡ paperEncoded r′ → r ≡ r′
+pub encoded-one : (r r′ : Encoded) → paperEncoded r ≡ paperEncoded r′ → r ≡ r′
 encoded-one (Written m) (Written n) same = ap Written (told-written m n same)
 encoded-one (Written m) (Refused e) same = absurd (paper-never-accepted e _ _ (sym same))
 encoded-one (Refused e) (Written n) same = absurd (paper-never-accepted e _ _ same)
