@@ -37,7 +37,7 @@ module _ (s : List ℕ) where
 
   -- eight bytes of a count that stands at `at`
   module _ (n : ℕ) (fits : n < 2 ^ 64) (body : List ℕ) (at : ℕ) (stands : drop at s ≡ bytesOf 8 n ++ body) where
-    count-is : countAt s at ≡ n
+    pub count-is : countAt s at ≡ n
     count-is = ap (λ (i : ℕ). countAt s i) (sym (add-zero at)) ∙ word-stands 8 0 n s [] body at stands refl fits
 
     count-there : 8 ≤ length s - at
@@ -46,11 +46,11 @@ module _ (s : List ℕ) where
         sym (length-drop at s) ∙ ap length stands ∙ length-append (bytesOf 8 n) body ∙ ap (λ (m : ℕ). m + length body) (length-bytesOf 8 n) in
         omega arith
 
-    behind-count : drop (at + 8) s ≡ body
+    pub behind-count : drop (at + 8) s ≡ body
     behind-count = drop-behind s (bytesOf 8 n) body at 8 stands (length-bytesOf 8 n)
 
   -- a row that stands at `at`
-  row-round : (row : Row) (at : ℕ) (tail : List ℕ) → GoodRow row → drop at s ≡ rowBytes row ++ tail
+  pub row-round : (row : Row) (at : ℕ) (tail : List ℕ) → GoodRow row → drop at s ≡ rowBytes row ++ tail
       → (drop (nextRow s at) s ≡ tail)
       × ((i : ℕ) (rest : Answer) → readRow s i at rest ≡ rest)
       × (rowAt s at ≡ row)
@@ -97,7 +97,7 @@ module _ (rows : List Row) (good : Writable rows) where
   fits : length rows < 2 ^ 64
   fits = omega (arith, good .0)
 
-  behind : drop 8 (bytesOfRows rows) ≡ rowsBytes rows ++ []
+  pub behind : drop 8 (bytesOfRows rows) ≡ rowsBytes rows ++ []
   unfolding bytesOfRows
   behind = drop-behind (bytesOf 8 (length rows) ++ rowsBytes rows) (bytesOf 8 (length rows)) (rowsBytes rows) 0 8 refl (length-bytesOf 8 (length rows)) ∙ sym (append-nil (rowsBytes rows))
 

@@ -12,7 +12,13 @@ pub mod ContentRound
 pub mod TableContent
 pub mod TableBytes
 pub mod RowsetWriter
+pub mod RowsetReader
+pub mod PlainForm
+pub mod IgnoredBytes
+pub mod ContentLaws
+pub mod PlainWritten
 pub mod Rowsets
+pub mod RowsetRefuted
 pub mod Examples
 pub mod TablesKeep
 pub mod OneResult

@@ -153,7 +153,7 @@ module _ (area values : List ℕ) where
 -- The whole
 
 module _ (area rows values : List ℕ) where
-  from-front : ((i : ℕ) → i < total rows → Allowed area values (entryWords * i)) → AllowedFrom area values (total rows) 0
+  pub from-front : ((i : ℕ) → i < total rows → Allowed area values (entryWords * i)) → AllowedFrom area values (total rows) 0
   from-front each i less = let place : entryWords * i ≡ 0 + entryWords * i = omega arith in rw place at (each i less)
 
   pub bytes-same : ((i : ℕ) → i < total rows → Allowed area values (entryWords * i)) → rowsetBytes area rows values ≡ tableBytes area rows values

@@ -4,6 +4,8 @@ pub mod Damage
 pub mod RoundTrip
 pub mod Content
 pub mod RowsetWriter
+pub mod RowsetReader
 pub mod Rowsets
+pub mod RowsetRefuted
 pub mod Examples
 pub mod TablesKeep

@@ -46,7 +46,7 @@ abbrev pub RowsetWriterAccepts : Type 0
 RowsetWriterAccepts =
     (area rows values before : List ℕ) (r : Encoded) (after : List ℕ) → Encodes area rows values before r after
     → let size = length (tableBytes area rows values) in
-      ((n : ℕ) → r ≡ Written n → Encodable area rows values × (n ≡ size) × (size ≤ length before) × (after ≡ over (tableBytes area rows values) before))
-      × (Encodable area rows values → size ≤ length before → r ≡ Written size)
-      × ((which needed given : ℕ) → r ≡ Refused (NoRoom which needed given) → Encodable area rows values × (length before < size))
-      × (Encodable area rows values → length before < size → r ≡ Refused (NoRoom 4 size (length before)))
+    ((n : ℕ) → r ≡ Written n → Encodable area rows values × (n ≡ size) × (size ≤ length before) × (after ≡ over (tableBytes area rows values) before))
+    × (Encodable area rows values → size ≤ length before → r ≡ Written size)
+    × ((which needed given : ℕ) → r ≡ Refused (NoRoom which needed given) → Encodable area rows values × (length before < size))
+    × (Encodable area rows values → length before < size → r ≡ Refused (NoRoom 4 size (length before)))
