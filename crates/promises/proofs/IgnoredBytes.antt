@@ -13,13 +13,14 @@ use Rattle.words.specs.Answer.{Answer, afterwards}
 use Rattle.words.specs.Buffer.{stretch}
 use Rattle.words.specs.Word.{word as wordAt}
 use Rattle.words.proofs.WordLaws.{word-same}
-use Rattle.wire_value.specs.Layout.{nullMark, boolean, scalar, blob, flag, bitsOf, valuesIn, idAt, typeAt, aggregateAt, lengthAt, scalarAt, countAt, nextValue, nextValues, nextRow, nextRows, rowWords, valueWords}
-use Rattle.wire.specs.Alike.{AlikeValue, AlikeValues, AlikeRows, Alike}
-use Rattle.wire.specs.Statement.{paperDecoded, Decodes}
-use Rattle.wire.specs.declared.rowset.Decoded.{Decoded}
-use Rattle.wire.proofs.AlikeLaws.{nextValue-alike, values-alike, rows-alike, read-alike}
-use Rattle.wire.proofs.Unique.{decoded-injective}
-use Rattle.promises.specs.Content.{Content, nothing, word, bytes, Cell, Row, null, values, contentAt, cellAt, cellsAt, rowAt, rowsAt, rowsOf}
+use Rattle.wire.specs.Layout.{nullMark, boolean, scalar, blob, flag, bitsOf, valuesIn, idAt, typeAt, aggregateAt, lengthAt, scalarAt, countAt, nextValue, nextValues, nextRow, nextRows, rowWords, valueWords}
+use Rattle.wire_read.specs.Reading.{reading}
+use Rattle.wire_read.specs.Alike.{AlikeValue, AlikeValues, AlikeRows, Alike}
+use Rattle.wire_read.specs.Statement.{Decodes}
+use Rattle.wire_read.specs.declared.rowset.Decoded.{Decoded}
+use Rattle.wire_read.proofs.AlikeLaws.{nextValue-alike, values-alike, rows-alike, read-alike}
+use Rattle.wire_read.proofs.Unique.{decoded-injective}
+use Rattle.wire.specs.Content.{Content, nothing, word, bytes, Cell, Row, null, values, contentAt, cellAt, cellsAt, rowAt, rowsAt, rowsOf}
 use Rattle.promises.specs.Rowsets.{Agree, SameValue, DifferOnlyThere, IgnoredBytes}
 use Rattle.promises.proofs.CellRound.{by-test}
 
@@ -106,10 +107,9 @@ ignored-bytes s t differ =
     let both = alike s t differ in (
       both .1,
       λ rows values r r′ rows′ values′ rows″ values″ p q.
-          let read = read-alike s t (both .0) (length rows) (length values) in
-          let answer : paperDecoded r ≡ paperDecoded r′ = p .0 ∙ read .0 ∙ sym (q .0) in (
-            decoded-injective r r′ answer,
-            p .1 ∙ ap (λ (a : Answer). afterwards a (rowWords s (countAt s 0) 8) rows) answer ∙ ap (λ (ws : List ℕ). afterwards (paperDecoded r′) ws rows) (read .1) ∙ sym (q .1),
-            p .2 ∙ ap (λ (a : Answer). afterwards a (valueWords s (countAt s 0) 8) values) answer ∙ ap (λ (ws : List ℕ). afterwards (paperDecoded r′) ws values) (read .2) ∙ sym (q .2),
+          let read = read-alike s t (both .0) (length rows) (length values) in (
+            decoded-injective r r′ (p .0 ∙ read .0 ∙ sym (q .0)),
+            p .1 ∙ ap (λ (a : Answer). afterwards a (rowWords s (countAt s 0) 8) rows) (read .0) ∙ ap (λ (ws : List ℕ). afterwards (reading t (length rows) (length values)) ws rows) (read .1) ∙ sym (q .1),
+            p .2 ∙ ap (λ (a : Answer). afterwards a (valueWords s (countAt s 0) 8) values) (read .0) ∙ ap (λ (ws : List ℕ). afterwards (reading t (length rows) (length values)) ws values) (read .2) ∙ sym (q .2),
           ),
     )

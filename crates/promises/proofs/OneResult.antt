@@ -6,8 +6,9 @@ pub use Rattle.guid.proofs.Unique.{Guid-from-parts-unique, Guid-parts-unique, G
 pub use Rattle.packet.proofs.Unique.{has-variable-header-unique, decode-with-unique, decode-unique}
 pub use Rattle.packet_table.proofs.Unique.{contains-unique, is-null-unique, part-unique, part-checksum-unique, validate-unique, encoded-size-unique as packet-encoded-size-unique}
 pub use Rattle.packet_write.proofs.Unique.{encode-unique}
-pub use Rattle.wire_value.proofs.Unique.{values-in-unique, padded-unique, read-header-unique, check-value-unique, read-value-unique}
-pub use Rattle.wire.proofs.Unique.{decode-rowset-unique, is-plain-unique}
-pub use Rattle.wire_reader.proofs.Unique.{need-at-unique, read-u64-at-unique, Reader-need-unique, Reader-read-u64-unique, Reader-read-value-unique}
-pub use Rattle.wire_table.proofs.Unique.{encoded-size-unique as rowset-encoded-size-unique}
-pub use Rattle.wire_write.proofs.Unique.{encode-rowset-unique}
+pub use Rattle.wire.proofs.Unique.{values-in-unique, padded-unique, flag-unique, kind-of-unique, need-at-unique, outcome-unique as wire-error-outcome-unique}
+pub use Rattle.wire_value.proofs.Unique.{read-header-unique, check-value-unique, read-value-unique, outcome-unique as read-value-outcome-unique}
+pub use Rattle.wire_read.proofs.Unique.{decode-rowset-unique, is-plain-unique, outcome-unique as rowset-decoded-outcome-unique}
+pub use Rattle.wire_reader.proofs.Unique.{read-u64-at-unique, Reader-need-unique, Reader-read-u64-unique, Reader-read-value-unique}
+pub use Rattle.wire_check.proofs.Unique.{encoded-size-unique as rowset-encoded-size-unique, outcome-unique as rowset-measured-outcome-unique}
+pub use Rattle.wire_write.proofs.Unique.{encode-rowset-unique, outcome-unique as rowset-encoded-outcome-unique}

@@ -10,9 +10,10 @@ use lib.Dec.{ltb, eqb}
 use lib.ListN.{length, getD}
 use Rattle.words.specs.Decide.{pick, decide}
 use Rattle.words.specs.Answer.{Answer, accepted, more, refused}
-use Rattle.wire_value.specs.Layout.{maxSize, scalar, blob, boolean, padding, valuesIn, typeAt, aggregateAt, lengthAt, scalarAt, countAt, nextRow, nextRows, nextValue, nextValues}
-use Rattle.wire.specs.Reading.{readRowset}
-use Rattle.wire.specs.Plain.{zeros, plainScalar, plainBlob, plainValue, plainValues, plainRows, isAccepted, accepts, plain}
+use Rattle.wire.specs.Layout.{maxSize, scalar, blob, boolean, padding, valuesIn, typeAt, aggregateAt, lengthAt, scalarAt, countAt, nextRow, nextRows, nextValue, nextValues}
+use Rattle.wire_read.specs.Stages.{readRowset}
+use Rattle.wire_read.specs.Plain.{zeros, plainScalar, plainBlob, plainValue, plainValues, plainRows, isAccepted, accepts, plain}
+use Rattle.wire_read.proofs.ReadingLaws.{accepts-walks}
 use Rattle.promises.specs.RowsetReader.{Acceptable}
 use Rattle.promises.specs.Rowsets.{PlainAt, PlainExactly}
 use Rattle.promises.proofs.CellRound.{by-test, blob-no-scalar}
@@ -117,10 +118,10 @@ accepted-lets more e = absurd (false≢true e)
 accepted-lets (refused number carried consumed) e = absurd (false≢true e)
 
 pub plain-exactly : PlainExactly
-unfolding plain accepts
+unfolding plain
 plain-exactly s says tells = (
   (λ is.
-      let told = split (ltb maxSize (length s)) (isAccepted (readRowset s (accepted 0 []))) (plainRows s (countAt s 0) 8) (sym tells ∙ is) in
-      (ltb-false maxSize (length s) (told .0), acceptable s (accepted 0 []) (accepted-lets (readRowset s (accepted 0 [])) (told .1)) .0, rows-each s (countAt s 0) 8 (told .2))),
-  (λ short ok values. tells ∙ rw (le-ltb maxSize (length s) short, rowset-passes s (accepted 0 []) ok) (each-rows s (countAt s 0) 8 values)),
+      let told = split (ltb maxSize (length s)) (accepts s) (plainRows s (countAt s 0) 8) (sym tells ∙ is) in
+      (ltb-false maxSize (length s) (told .0), acceptable s (accepted 0 []) (accepted-lets (readRowset s (accepted 0 [])) (sym (accepts-walks s) ∙ told .1)) .0, rows-each s (countAt s 0) 8 (told .2))),
+  (λ short ok values. tells ∙ rw (le-ltb maxSize (length s) short, accepts-walks s, rowset-passes s (accepted 0 []) ok) (each-rows s (countAt s 0) 8 values)),
 )

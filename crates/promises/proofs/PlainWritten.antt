@@ -11,9 +11,10 @@ use lib.Seq.{getD-drop}
 use borrow.Author.Tests.{lt-ltb, le-ltb, eq-eqb, ne-eqb, eqb-true}
 use Rattle.words.specs.Answer.{accepted}
 use Rattle.words.specs.Word.{word as wordAt, bytesOf}
-use Rattle.wire_value.specs.Layout.{nullMark, maxSize, maxValues, boolean, scalar, blob, padding, valuesIn, typeAt, aggregateAt, lengthAt, scalarAt, countAt, nextValue, nextValues, nextRow}
-use Rattle.wire.specs.Plain.{zeros, plainScalar, plainBlob, plainValue, plainValues, plainRows, accepts, plain}
-use Rattle.promises.specs.Content.{Content, nothing, word, bytes, Cell, Row, null, values, lengthWord, contentBytes, cellBytes, cellsBytes, rowBytes, rowsBytes, bytesOfRows, FitsType, GoodCell, GoodCells, GoodRow, GoodRows, Writable}
+use Rattle.wire.specs.Layout.{nullMark, maxSize, maxValues, boolean, scalar, blob, padding, valuesIn, typeAt, aggregateAt, lengthAt, scalarAt, countAt, nextValue, nextValues, nextRow}
+use Rattle.wire_read.specs.Plain.{zeros, plainScalar, plainBlob, plainValue, plainValues, plainRows, accepts, plain}
+use Rattle.wire_read.proofs.ReadingLaws.{accepts-walks}
+use Rattle.wire.specs.Content.{Content, nothing, word, bytes, Cell, Row, null, values, lengthWord, contentBytes, cellBytes, cellsBytes, rowBytes, rowsBytes, bytesOfRows, FitsType, GoodCell, GoodCells, GoodRow, GoodRows, Writable}
 use Rattle.promises.proofs.CellRound.{by-test, word-stands, drop-behind, scalar-no-blob, blob-no-scalar, reads-type, reads-aggregate, reads-length, behind-header, tail-stands}
 use Rattle.promises.proofs.ContentRound.{count-is, behind-count, row-round, reads-count, reads-passes, behind}
 
@@ -71,6 +72,6 @@ module _ (s : List ℕ) where
 
 -- the bytes of content that can be written, where they are not too many, have the plain form
 pub written-plain : (rows : List Row) → Writable rows → length (bytesOfRows rows) ≤ maxSize → plain (bytesOfRows rows) ≡ true
-unfolding plain accepts
+unfolding plain
 written-plain rows good small =
-    rw (le-ltb maxSize (length (bytesOfRows rows)) small, reads-passes rows good (accepted 0 []), reads-count rows good) (rows-plain (bytesOfRows rows) rows 8 [] (good .1) (behind rows good))
+    rw (le-ltb maxSize (length (bytesOfRows rows)) small, accepts-walks (bytesOfRows rows), reads-passes rows good (accepted 0 []), reads-count rows good) (rows-plain (bytesOfRows rows) rows 8 [] (good .1) (behind rows good))

@@ -8,16 +8,22 @@ use native.Mathlib.Omega.{arith}
 use borrow.Author.Tests.{ltb-true, ltb-false, lt-ltb, le-ltb, eqb-true, eq-eqb, not-false}
 use lib.Dec.{ltb, eqb}
 use lib.ListN.{length}
+use Rattle.words.specs.Paper.{noRoomValues}
+use Rattle.words.specs.declared.outcome.NoRoom as words
+use Rattle.words.specs.declared.outcome.Room.the-variants.{Rows, Values}
 use Rattle.words.specs.Decide.{pick, decide}
 use Rattle.words.specs.Answer.{Answer, accepted, refuse}
-use Rattle.wire_value.specs.Layout.{nullMark, maxRows, maxValues, maxLength, entryWords, known, blob, valuesIn, typeAt, lengthAt, payloadAt, countAt, nextRow, nextRows, nextValue, nextValues}
+use Rattle.wire.specs.Layout.{nullMark, maxRows, maxValues, maxLength, entryWords, known, blob, valuesIn, typeAt, lengthAt, payloadAt, countAt, nextRow, nextRows, nextValue, nextValues}
 use Rattle.wire_value.specs.ValueOrder.{valueOrder}
-use Rattle.wire_value.specs.declared.error.WireError.the-variants.{NoRoom}
-use Rattle.wire.specs.Reading.{readValues, countOrder, readRow, readRows, headOrder, readRowset, roomOrder, reading, endOf, valuesOf}
-use Rattle.wire.specs.Statement.{paperDecoded, Decodes}
-use Rattle.wire.specs.declared.rowset.Decoded.{Decoded}
-use Rattle.wire.specs.declared.rowset.Decoded.the-variants.{Read, Refused}
-use Rattle.wire.proofs.Unique.{decoded-injective}
+use Rattle.wire.specs.declared.error.WireError.the-variants.{NoRoom}
+use Rattle.wire_read.specs.Stages.{readValues, countOrder, readRow, readRows, headOrder, readRowset, roomOrder}
+use Rattle.wire_read.specs.Reading.{reading, endOf, valuesOf}
+use Rattle.wire_read.specs.Paper.{paperDecoded}
+use Rattle.wire_read.specs.Statement.{Decodes}
+use Rattle.wire_read.specs.declared.rowset.Decoded.{Decoded}
+use Rattle.wire_read.specs.declared.rowset.Decoded.the-variants.{Read, Refused}
+use Rattle.wire_read.proofs.Unique.{decoded-injective}
+use Rattle.wire_read.proofs.ReadingLaws.{reading-walks}
 use Rattle.promises.specs.RowsetReader.{RowStands, ValueStands, Acceptable, Roomy, RowsetReaderAccepts}
 use Rattle.promises.proofs.CellRound.{by-test}
 use Rattle.promises.proofs.RowsetWriter.{lets, Lets, passed}
@@ -147,10 +153,10 @@ told : (a b c d : ℕ) → accepted 0 (a ∷ b ∷ []) ≡ accepted 0 (c ∷ d �
 told a b c d same = (let e : a ≡ c = cc in e, let f : b ≡ d = cc in f)
 
 pub rowset-reader-accepts : RowsetReaderAccepts
-unfolding reading roomOrder
+unfolding roomOrder
 rowset-reader-accepts s rows values r rows′ values′ decodes = (
   (λ n m e.
-      let is : reading s (length rows) (length values) ≡ accepted 0 (n ∷ m ∷ []) = sym (decodes .0) ∙ ap paperDecoded e in
+      let is : walk ≡ accepted 0 (n ∷ m ∷ []) = sym (reading-walks s (length rows) (length values)) ∙ sym (decodes .0) ∙ ap paperDecoded e in
       let ok = acceptable s _ (ap lets is) .0 in
       let room = by-room (ltb (length rows) (countAt s 0)) (ltb (length values / entryWords) (valuesOf s)) n m (sym (rowset-passes s _ ok) ∙ is) in (
         ok,
@@ -160,30 +166,33 @@ rowset-reader-accepts s rows values r rows′ values′ decodes = (
       )),
   (λ ok room.
       decoded-injective r (Read (countAt s 0) (valuesOf s))
-      (decodes .0 ∙ rowset-passes s _ ok ∙ rw (le-ltb (length rows) (countAt s 0) (room .for-rows), le-ltb (length values / entryWords) (valuesOf s) (room .for-values)))),
-  (λ which needed given e.
-      let is : reading s (length rows) (length values) ≡ refuse 17 (which ∷ needed ∷ given ∷ []) = sym (decodes .0) ∙ ap paperDecoded e in
+      (decodes .0 ∙ reading-walks s (length rows) (length values) ∙ rowset-passes s _ ok ∙ rw (le-ltb (length rows) (countAt s 0) (room .for-rows), le-ltb (length values / entryWords) (valuesOf s) (room .for-values)))),
+  (λ short e.
+      let is : walk ≡ refuse 17 (noRoomValues short) = sym (reading-walks s (length rows) (length values)) ∙ sym (decodes .0) ∙ ap paperDecoded e in
       let ok = acceptable s _ (ap lets is) .0 in (
         ok,
-        λ room. by-short (ltb (length rows) (countAt s 0)) (ltb (length values / entryWords) (valuesOf s)) which needed given (sym (rowset-passes s _ ok) ∙ is)
+        λ room. by-short (ltb (length rows) (countAt s 0)) (ltb (length values / entryWords) (valuesOf s)) short (sym (rowset-passes s _ ok) ∙ is)
             (le-ltb (length rows) (countAt s 0) (room .for-rows)) (le-ltb (length values / entryWords) (valuesOf s) (room .for-values)),
       )),
-  (λ ok short. decoded-injective r (Refused (NoRoom 2 (countAt s 0) (length rows))) (decodes .0 ∙ rowset-passes s _ ok ∙ rw (lt-ltb (length rows) (countAt s 0) short))),
+  (λ ok short. decoded-injective r (Refused (NoRoom (record { room = Rows; needed = countAt s 0; given = length rows }))) (decodes .0 ∙ reading-walks s (length rows) (length values) ∙ rowset-passes s _ ok ∙ rw (lt-ltb (length rows) (countAt s 0) short))),
   (λ ok fits short.
-      decoded-injective r (Refused (NoRoom 3 (valuesOf s) (length values / entryWords)))
-      (decodes .0 ∙ rowset-passes s _ ok ∙ rw (le-ltb (length rows) (countAt s 0) fits, lt-ltb (length values / entryWords) (valuesOf s) short))),
+      decoded-injective r (Refused (NoRoom (record { room = Values; needed = valuesOf s; given = length values / entryWords })))
+      (decodes .0 ∙ reading-walks s (length rows) (length values) ∙ rowset-passes s _ ok ∙ rw (le-ltb (length rows) (countAt s 0) fits, lt-ltb (length values / entryWords) (valuesOf s) short))),
 )
   where
     answer : Bool → Bool → Answer
     answer a b =
         pick a (refuse 17 (2 ∷ countAt s 0 ∷ length rows ∷ [])) (pick b (refuse 17 (3 ∷ valuesOf s ∷ (length values / entryWords) ∷ [])) (accepted 0 (countAt s 0 ∷ valuesOf s ∷ [])))
 
+    walk : Answer
+    walk = readRowset s (answer (ltb (length rows) (countAt s 0)) (ltb (length values / entryWords) (valuesOf s)))
+
     by-room : (a b : Bool) (n m : ℕ) → answer a b ≡ accepted 0 (n ∷ m ∷ []) → (a ≡ false) × (b ≡ false) × (countAt s 0 ≡ n) × (valuesOf s ≡ m)
     by-room true b n m e = absurd (let z : _≡_ {A = ℕ} 0 1 = cc in omega arith)
     by-room false true n m e = absurd (let z : _≡_ {A = ℕ} 0 1 = cc in omega arith)
     by-room false false n m e = let both = told (countAt s 0) (valuesOf s) n m e in (refl, refl, both .0, both .1)
 
-    by-short : (a b : Bool) (which needed given : ℕ) → answer a b ≡ refuse 17 (which ∷ needed ∷ given ∷ []) → a ≡ false → b ≡ false → ⊥
-    by-short true b which needed given e x y = let z : _≡_ {A = ℕ} 0 1 = cc in omega arith
-    by-short false true which needed given e x y = let z : _≡_ {A = ℕ} 0 1 = cc in omega arith
-    by-short false false which needed given e x y = let z : _≡_ {A = ℕ} 0 1 = cc in omega arith
+    by-short : (a b : Bool) (short : words.NoRoom) → answer a b ≡ refuse 17 (noRoomValues short) → a ≡ false → b ≡ false → ⊥
+    by-short true b short e x y = let z : _≡_ {A = ℕ} 0 1 = cc in omega arith
+    by-short false true short e x y = let z : _≡_ {A = ℕ} 0 1 = cc in omega arith
+    by-short false false short e x y = let z : _≡_ {A = ℕ} 0 1 = cc in omega arith

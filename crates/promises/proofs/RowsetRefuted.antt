@@ -6,12 +6,11 @@ use Prim.Native.Nat.{ℕ, _<_}
 use native.Mathlib.Omega.{arith}
 use lib.ListN.{length, getD}
 use Rattle.words.specs.Word.{word, bytesOf}
-use Rattle.wire_value.specs.Layout.{maxSize, payload, nextValue, nextValues, nextRow, nextRows, valueCount}
-use Rattle.wire_value.specs.ValueOrder.{valueOrder}
-use Rattle.wire.specs.Reading.{readValues, countOrder, readRow, readRows, headOrder, readRowset}
-use Rattle.wire.specs.Plain.{zeros, plainValue, plainValues, plainRows, accepts, plain}
-use Rattle.wire.specs.Statement.{TellsPlain}
-use Rattle.promises.specs.Content.{Row, null, values, cellsAt, rowsAt, rowsOf}
+use Rattle.wire.specs.Layout.{maxSize, payload, nextValue, nextValues, nextRow, nextRows, valueCount}
+use Rattle.wire_read.specs.Reading.{valuesLines, rowsLines, inputLines}
+use Rattle.wire_read.specs.Plain.{zeros, plainValue, plainValues, plainRows, accepts, plain}
+use Rattle.wire_read.specs.Statement.{TellsPlain}
+use Rattle.wire.specs.Content.{Row, null, values, cellsAt, rowsAt, rowsOf}
 use Rattle.promises.specs.RowsetRefuted.{twoRows, twoEmptyRows, booleanOfTwo, paddingOfEight, aggregateOfTwo, NotUnderTheNeighbour, NullIsNotEmpty, LongIsNotPlain, AcceptedIsNotPlain}
 use Rattle.promises.proofs.PlainForm.{plain-exactly}
 
@@ -32,5 +31,5 @@ long-is-not-plain s true tells long = absurd (omega (arith, plain-exactly s true
 long-is-not-plain s false tells long = refl
 
 pub accepted-is-not-plain : AcceptedIsNotPlain
-unfolding booleanOfTwo paddingOfEight aggregateOfTwo accepts plain plainRows plainValues plainValue zeros readRowset headOrder readRows readRow countOrder readValues valueOrder nextRows nextRow nextValues nextValue payload valueCount word bytesOf
+unfolding booleanOfTwo paddingOfEight aggregateOfTwo accepts plain plainRows plainValues plainValue zeros inputLines rowsLines valuesLines nextRows nextRow nextValues nextValue payload valueCount word bytesOf
 accepted-is-not-plain = (refl, refl, refl, refl, refl, refl)

@@ -9,20 +9,27 @@ use lib.Dec.{ltb, eqb}
 use lib.ListN.{length, getD}
 use borrow.Author.Tests.{ltb-true, ltb-false, lt-ltb, le-ltb, eqb-true, eq-eqb, ne-eqb, not-false}
 use Rattle.words.specs.Answer.{Answer, accepted, more, refused, refuse, afterwards}
+use Rattle.words.specs.Paper.{noRoomValues}
+use Rattle.words.specs.declared.outcome.NoRoom as words
+use Rattle.words.specs.declared.outcome.Room.the-variants.{Output}
 use Rattle.words.specs.Decide.{pick, decide, first}
 use Rattle.words.specs.Buffer.{over}
 use Rattle.words.proofs.DecideLaws.{first-all}
-use Rattle.wire_value.specs.Layout.{nullMark, maxRows, maxValues, maxLength, maxSize, entryWords, boolean, scalar, blob, known, valuesIn, rowsetBytes}
-use Rattle.wire_value.specs.declared.error.WireError.the-variants.{NoRoom}
-use Rattle.wire_table.specs.Writing.{idIn, typeIn, aggregateIn, bitsIn, lengthIn, entriesIn, total, bad, badEntry, firstBad, tableOrder, valueSize, valuesSize, rowSize, rowsSize, rowsetSize, valueOrder, countOrder, fitValues, fitRow, fitRows, fitting, writing}
-use Rattle.wire_table.specs.Measure.{Good, Sound}
-use Rattle.wire_table.proofs.TableLaws.{none-wrong, tables-pass}
+use Rattle.wire.specs.Layout.{nullMark, maxRows, maxValues, maxLength, maxSize, entryWords, boolean, scalar, blob, known, valuesIn, rowsetBytes}
+use Rattle.wire.specs.declared.error.WireError.the-variants.{NoRoom}
+use Rattle.wire_check.specs.Writing.{idIn, typeIn, aggregateIn, bitsIn, lengthIn, entriesIn, total, bad, badEntry, firstBad, valueSize, valuesSize, rowSize, rowsSize, rowsetSize, valueOrder, countOrder, writing}
+use Rattle.wire_check.specs.Stages.{tableOrder, fitValues, fitRow, fitRows, fitting}
+use Rattle.wire_check.specs.Stages.{Good, Sound}
+use Rattle.wire_check.proofs.TableLaws.{none-wrong, tables-pass}
 use Rattle.wire_write.specs.declared.write.Encoded.{Encoded}
 use Rattle.wire_write.specs.declared.write.Encoded.the-variants.{Written, Refused}
-use Rattle.wire_write.specs.Encode.{paperEncoded, Encodes}
+use Rattle.wire_write.specs.Paper.{paperEncoded}
+use Rattle.wire_write.specs.Statement.{Encodes}
 use Rattle.wire_write.proofs.LengthLaws.{rowset-length}
 use Rattle.wire_write.proofs.Unique.{encoded-one}
-use Rattle.promises.specs.Content.{rowsIn, bytesOfRows}
+use Rattle.wire_write.proofs.EncodeLaws.{encodes-told}
+use Rattle.wire_check.proofs.LinesLaws.{writing-walks}
+use Rattle.wire.specs.Content.{rowsIn, bytesOfRows}
 use Rattle.promises.specs.RowsetWriter.{Allowed, tableBytes, Encodable, RowsetWriterAccepts}
 use Rattle.promises.proofs.CellRound.{by-test}
 use Rattle.promises.proofs.TableBytes.{AllowedFrom, allowed-first, allowed-next, allowed-rest, rowset-bytes}
@@ -213,10 +220,9 @@ told : (m n : ℕ) → accepted m [] ≡ accepted n [] → m ≡ n
 told m n same = cc
 
 pub rowset-writer-accepts : RowsetWriterAccepts
-unfolding writing
 rowset-writer-accepts area rows values before r after encodes = (
   (λ n e.
-      let is : writing area rows values (length before) ≡ accepted n [] = sym (encodes .0) ∙ ap paperEncoded e in
+      let is : walk ≡ accepted n [] = sym (writing-walks area rows values (length before)) ∙ sym (encodes .0) ∙ ap paperEncoded e in
       let found = fitting-lets area rows values _ (ap lets is) in
       let size = found .1 in
       let answer : pick (ltb (length before) (rowsetSize rows values)) (refuse 17 (4 ∷ rowsetSize rows values ∷ length before ∷ [])) (accepted (rowsetSize rows values) []) ≡ accepted n [] =
@@ -226,27 +232,30 @@ rowset-writer-accepts area rows values before r after encodes = (
         found .0,
         sym (room .1) ∙ sym size,
         omega (arith, size),
-        encodes .1 ∙ ap (λ (a : Answer). afterwards a (rowsetBytes area rows values) before) (ap paperEncoded e) ∙ ap (λ (ws : List ℕ). over ws before) (bytes-same area rows values (found .0 .entries)),
+        encodes-told area rows values before r after encodes ∙ ap (λ (a : Answer). afterwards a (rowsetBytes area rows values) before) (ap paperEncoded e) ∙ ap (λ (ws : List ℕ). over ws before) (bytes-same area rows values (found .0 .entries)),
       )),
   (λ ok room.
       let size = size-is area rows values ok in
       encoded-one r (Written (length (tableBytes area rows values)))
-      (encodes .0 ∙ fitting-passes area rows values ok _ ∙ rw (le-ltb (length before) (rowsetSize rows values) (omega (arith, size)), size))),
-  (λ which needed given e.
-      let is : writing area rows values (length before) ≡ refuse 17 (which ∷ needed ∷ given ∷ []) = sym (encodes .0) ∙ ap paperEncoded e in
+      (encodes .0 ∙ writing-walks area rows values (length before) ∙ fitting-passes area rows values ok _ ∙ rw (le-ltb (length before) (rowsetSize rows values) (omega (arith, size)), size))),
+  (λ short e.
+      let is : walk ≡ refuse 17 (noRoomValues short) = sym (writing-walks area rows values (length before)) ∙ sym (encodes .0) ∙ ap paperEncoded e in
       let found = fitting-lets area rows values _ (ap lets is) in
       let answer = sym (fitting-passes area rows values (found .0) _) ∙ is in
-      (found .0, omega (arith, found .1, ltb-true (length before) (rowsetSize rows values) (by-short (ltb (length before) (rowsetSize rows values)) which needed given answer)))),
+      (found .0, omega (arith, found .1, ltb-true (length before) (rowsetSize rows values) (by-short (ltb (length before) (rowsetSize rows values)) short answer)))),
   (λ ok short.
       let size = size-is area rows values ok in
-      encoded-one r (Refused (NoRoom 4 (length (tableBytes area rows values)) (length before)))
-      (encodes .0 ∙ fitting-passes area rows values ok _ ∙ rw (lt-ltb (length before) (rowsetSize rows values) (omega (arith, size)), size))),
+      encoded-one r (Refused (NoRoom (record { room = Output; needed = length (tableBytes area rows values); given = length before })))
+      (encodes .0 ∙ writing-walks area rows values (length before) ∙ fitting-passes area rows values ok _ ∙ rw (lt-ltb (length before) (rowsetSize rows values) (omega (arith, size)), size))),
 )
   where
+    walk : Answer
+    walk = fitting area rows values (pick (ltb (length before) (rowsetSize rows values)) (refuse 17 (4 ∷ rowsetSize rows values ∷ length before ∷ [])) (accepted (rowsetSize rows values) []))
+
     by-room : (t : Bool) (n : ℕ) → pick t (refuse 17 (4 ∷ rowsetSize rows values ∷ length before ∷ [])) (accepted (rowsetSize rows values) []) ≡ accepted n [] → (t ≡ false) × (rowsetSize rows values ≡ n)
     by-room true n e = absurd (let z : _≡_ {A = ℕ} 0 1 = cc in omega arith)
     by-room false n e = (refl, told (rowsetSize rows values) n e)
 
-    by-short : (t : Bool) (which needed given : ℕ) → pick t (refuse 17 (4 ∷ rowsetSize rows values ∷ length before ∷ [])) (accepted (rowsetSize rows values) []) ≡ refuse 17 (which ∷ needed ∷ given ∷ []) → t ≡ true
-    by-short true which needed given e = refl
-    by-short false which needed given e = absurd (let z : _≡_ {A = ℕ} 0 1 = cc in omega arith)
+    by-short : (t : Bool) (short : words.NoRoom) → pick t (refuse 17 (4 ∷ rowsetSize rows values ∷ length before ∷ [])) (accepted (rowsetSize rows values) []) ≡ refuse 17 (noRoomValues short) → t ≡ true
+    by-short true short e = refl
+    by-short false short e = absurd (let z : _≡_ {A = ℕ} 0 1 = cc in omega arith)

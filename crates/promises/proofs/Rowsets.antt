@@ -8,17 +8,20 @@ use lib.ListN.{length, getD, take, drop, length-drop}
 use lib.Seq.{take-at, drop-at, getD-take, take-append-le, drop-append-le}
 use Rattle.words.specs.Answer.{Answer, accepted, afterwards}
 use Rattle.words.specs.Buffer.{stretch, over}
-use Rattle.wire_value.specs.Layout.{maxSize, entryWords, valuesIn, countAt, nextRows, valueCount, entries, rowWords, valueWords}
-use Rattle.wire_value.proofs.LayoutLaws.{length-rowWords, length-valueWords}
-use Rattle.wire.specs.Reading.{reading, readRowset, valuesOf}
-use Rattle.wire.specs.Statement.{paperDecoded, Decodes}
-use Rattle.wire.specs.declared.rowset.Decoded.{Decoded}
-use Rattle.wire.specs.declared.rowset.Decoded.the-variants.{Read}
-use Rattle.wire.proofs.RowLaws.{row-word, row-entries}
+use Rattle.wire.specs.Layout.{maxSize, entryWords, valuesIn, countAt, nextRows, valueCount, entries, rowWords, valueWords}
+use Rattle.wire.proofs.LayoutLaws.{length-rowWords, length-valueWords}
+use Rattle.wire_read.specs.Stages.{readRowset}
+use Rattle.wire_read.specs.Reading.{reading, valuesOf}
+use Rattle.wire_read.specs.Paper.{paperDecoded}
+use Rattle.wire_read.specs.Statement.{Decodes}
+use Rattle.wire_read.specs.declared.rowset.Decoded.{Decoded}
+use Rattle.wire_read.specs.declared.rowset.Decoded.the-variants.{Read}
+use Rattle.wire_read.proofs.DecodeLaws.{decodes-told}
+use Rattle.wire_read.proofs.RowLaws.{row-word, row-entries}
 use Rattle.wire_write.specs.declared.write.Encoded.the-variants.{Written}
-use Rattle.wire_write.specs.Encode.{Encodes}
-use Rattle.wire_table.specs.Writing.{total}
-use Rattle.promises.specs.Content.{Row, null, rowsAt, rowsOf, rowsIn, bytesOfRows, Writable}
+use Rattle.wire_write.specs.Statement.{Encodes}
+use Rattle.wire_check.specs.Writing.{total}
+use Rattle.wire.specs.Content.{Row, null, rowsAt, rowsOf, rowsIn, bytesOfRows, Writable}
 use Rattle.promises.specs.RowsetReader.{Acceptable, Roomy}
 use Rattle.promises.specs.RowsetWriter.{tableBytes, Encodable}
 use Rattle.promises.specs.Rowsets.{RowsInOrder, RowsByPlace, RowsetRoundTrip, RowsetEncodeThenDecode, WrittenIsPlain, PlainAt}
@@ -50,20 +53,21 @@ row-within s n i at h = rw (length-valueWords s n at) (omega (arith, values-befo
 -- "I prepared fisheries and opened dentistry" cannot happen: row i stands at row i.
 pub rows-in-order : RowsInOrder
 rows-in-order s rows values n m rows′ values′ decodes =
+    let tables = decodes-told s rows values (Read n m) rows′ values′ decodes in
     let told = rowset-reader-accepts s rows values (Read n m) rows′ values′ decodes .0 n m refl in
     let count : n ≡ countAt s 0 = told .2 in
     let all : m ≡ valuesOf s = told .3 in
     let rowLength : length (rowWords s (countAt s 0) 8) ≡ n = length-rowWords s (countAt s 0) 8 ∙ sym count in
     let valueLength : length (valueWords s (countAt s 0) 8) ≡ entryWords * m = length-valueWords s (countAt s 0) 8 ∙ ap (λ (k : ℕ). entryWords * k) (sym all) in
-    let rowFront : take n rows′ ≡ rowWords s (countAt s 0) 8 = ap (take n) (decodes .1) ∙ front (rowWords s (countAt s 0) 8) rows n rowLength in
-    let valueFront : take (entryWords * m) values′ ≡ valueWords s (countAt s 0) 8 = ap (take (entryWords * m)) (decodes .2) ∙ front (valueWords s (countAt s 0) 8) values (entryWords * m) valueLength in (
+    let rowFront : take n rows′ ≡ rowWords s (countAt s 0) 8 = ap (take n) (tables .0) ∙ front (rowWords s (countAt s 0) 8) rows n rowLength in
+    let valueFront : take (entryWords * m) values′ ≡ valueWords s (countAt s 0) 8 = ap (take (entryWords * m)) (tables .1) ∙ front (valueWords s (countAt s 0) 8) values (entryWords * m) valueLength in (
       count,
       all,
       (λ i less. sym (getD-take n rows′ i 0 less) ∙ ap (λ (l : List ℕ). getD l i 0) rowFront ∙ row-word s (countAt s 0) i 8 (rw count at less)),
-      (λ i less. row-stretch s i (rw count at less) values′ values (decodes .2)),
-      ap (λ (l : List ℕ). rowsIn s l values′) rowFront ∙ tables-filled s values′ (drop (length (valueWords s (countAt s 0) 8)) values) (decodes .2),
-      ap (drop n) (decodes .1) ∙ kept (rowWords s (countAt s 0) 8) rows n rowLength,
-      ap (drop (entryWords * m)) (decodes .2) ∙ kept (valueWords s (countAt s 0) 8) values (entryWords * m) valueLength,
+      (λ i less. row-stretch s i (rw count at less) values′ values (tables .1)),
+      ap (λ (l : List ℕ). rowsIn s l values′) rowFront ∙ tables-filled s values′ (drop (length (valueWords s (countAt s 0) 8)) values) (tables .1),
+      ap (drop n) (tables .0) ∙ kept (rowWords s (countAt s 0) 8) rows n rowLength,
+      ap (drop (entryWords * m)) (tables .1) ∙ kept (valueWords s (countAt s 0) 8) values (entryWords * m) valueLength,
     )
   where
     row-stretch : (s : List ℕ) (i : ℕ) → i < countAt s 0 → (table before : List ℕ) → table ≡ over (valueWords s (countAt s 0) 8) before
@@ -109,7 +113,7 @@ rowset-encode-then-decode area rows values out n after rowTable valueTable r row
     let inOrder = rows-in-order s rowTable valueTable (countAt s 0) (valuesOf s) rowTable′ valueTable′ (rw answer at decodes) in
     let taken : paperDecoded r ≡ accepted 0 (countAt s 0 ∷ valuesOf s ∷ []) = ap paperDecoded answer in (
       answer ∙ ap (λ (k : ℕ). Read k (valuesOf s)) count ∙ ap (Read (length rows)) entries,
-      decodes .1 ∙ ap (λ (a : Answer). afterwards a (rowWords s (countAt s 0) 8) rowTable) taken ∙ ap (λ (ws : List ℕ). over ws rowTable) sameRows,
+      decodes-told s rowTable valueTable r rowTable′ valueTable′ decodes .0 ∙ ap (λ (a : Answer). afterwards a (rowWords s (countAt s 0) 8) rowTable) taken ∙ ap (λ (ws : List ℕ). over ws rowTable) sameRows,
       ap (λ (k : ℕ). rowsIn s (take k rowTable′) valueTable′) (sym count) ∙ inOrder .4 ∙ held,
       tells ∙ rw is (written-plain content good (omega (arith, ok .small))),
     )

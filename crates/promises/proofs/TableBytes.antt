@@ -11,10 +11,10 @@ use lib.Seq.{length-take-le}
 use borrow.Author.Tests.{le-ltb, eq-eqb, ne-eqb, eqb-true}
 use Rattle.words.specs.Buffer.{stretch}
 use Rattle.words.specs.Word.{bytesOf}
-use Rattle.wire_value.specs.Layout.{nullMark, maxRows, maxValues, entryWords, boolean, scalar, blob, known, valuesIn, payloadBytes, valueBytes, entryBytes, valuesBytes, rowBytes, rowsBytes, rowsetBytes}
-use Rattle.wire_table.specs.Writing.{typeIn, bitsIn, lengthIn, total}
-use Rattle.promises.specs.Content as content
-use Rattle.promises.specs.Content.{Content, nothing, word, bytes, Cell, Row, null, values, cellIn, cellsIn, rowsFrom, rowsIn, contentIn, lengthWord, contentBytes, cellBytes, cellsBytes, bytesOfRows, FitsType, GoodCells, GoodRows, Writable}
+use Rattle.wire.specs.Layout.{nullMark, maxRows, maxValues, entryWords, boolean, scalar, blob, known, valuesIn, payloadBytes, valueBytes, entryBytes, valuesBytes, rowBytes, rowsBytes, rowsetBytes}
+use Rattle.wire_check.specs.Writing.{typeIn, bitsIn, lengthIn, total}
+use Rattle.wire.specs.Content as content
+use Rattle.wire.specs.Content.{Content, nothing, word, bytes, Cell, Row, null, values, cellIn, cellsIn, rowsFrom, rowsIn, contentIn, lengthWord, contentBytes, cellBytes, cellsBytes, bytesOfRows, FitsType, GoodCells, GoodRows, Writable}
 use Rattle.promises.specs.RowsetWriter.{Allowed}
 use Rattle.promises.proofs.CellRound.{by-test, scalar-no-blob}
 

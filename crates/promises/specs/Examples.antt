@@ -11,8 +11,8 @@ use Rattle.crc64.specs.Polynomial.{checksum}
 use Rattle.guid.specs.Guid.{guidOf}
 use Rattle.guid.specs.Text.{textOf, reading as readingText}
 use Rattle.packet.specs.Reading.{reading as readingPacket}
-use Rattle.wire_value.specs.Layout.{rowWords}
-use Rattle.wire.specs.Reading.{reading as readingRowset}
+use Rattle.wire.specs.Layout.{rowWords}
+use Rattle.wire_read.specs.Reading.{reading as readingRowset}
 
 -- an answer that is a number, or a list of them
 abbrev number : ℕ → Answer

@@ -2,7 +2,6 @@
 pub mod Acceptance
 pub mod Damage
 pub mod RoundTrip
-pub mod Content
 pub mod RowsetWriter
 pub mod RowsetReader
 pub mod Rowsets

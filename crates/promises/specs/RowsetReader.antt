@@ -5,12 +5,14 @@ use mathlib.Core.List.{List}
 use mathlib.Core.Path.{_≡_}
 use mathlib.Core.Logic.{_⊎_}
 use lib.ListN.{length}
-use Rattle.wire_value.specs.Layout.{nullMark, maxRows, maxValues, maxLength, entryWords, known, blob, valuesIn, typeAt, lengthAt, countAt, nextRows, nextValue, nextValues}
-use Rattle.wire_value.specs.declared.error.WireError.the-variants.{NoRoom}
-use Rattle.wire.specs.Reading.{endOf, valuesOf}
-use Rattle.wire.specs.Statement.{Decodes}
-use Rattle.wire.specs.declared.rowset.Decoded.{Decoded}
-use Rattle.wire.specs.declared.rowset.Decoded.the-variants.{Read, Refused}
+use Rattle.wire.specs.Layout.{nullMark, maxRows, maxValues, maxLength, entryWords, known, blob, valuesIn, typeAt, lengthAt, countAt, nextRows, nextValue, nextValues}
+use Rattle.words.specs.declared.outcome.NoRoom as words
+use Rattle.words.specs.declared.outcome.Room.the-variants.{Rows, Values}
+use Rattle.wire.specs.declared.error.WireError.the-variants.{NoRoom}
+use Rattle.wire_read.specs.Reading.{endOf, valuesOf}
+use Rattle.wire_read.specs.Statement.{Decodes}
+use Rattle.wire_read.specs.declared.rowset.Decoded.{Decoded}
+use Rattle.wire_read.specs.declared.rowset.Decoded.the-variants.{Read, Refused}
 
 -- where row i begins, and where its value j begins
 abbrev pub rowPlace : List ℕ → ℕ → ℕ
@@ -57,7 +59,7 @@ RowsetReaderAccepts =
     (s rows values : List ℕ) (r : Decoded) (rows′ values′ : List ℕ) → Decodes s rows values r rows′ values′
     → ((n m : ℕ) → r ≡ Read n m → Acceptable s × Roomy s rows values × (n ≡ countAt s 0) × (m ≡ valuesOf s))
     × (Acceptable s → Roomy s rows values → r ≡ Read (countAt s 0) (valuesOf s))
-    × ((which needed given : ℕ) → r ≡ Refused (NoRoom which needed given) → Acceptable s × (Roomy s rows values → ⊥))
-    × (Acceptable s → length rows < countAt s 0 → r ≡ Refused (NoRoom 2 (countAt s 0) (length rows)))
+    × ((short : words.NoRoom) → r ≡ Refused (NoRoom short) → Acceptable s × (Roomy s rows values → ⊥))
+    × (Acceptable s → length rows < countAt s 0 → r ≡ Refused (NoRoom (record { room = Rows; needed = countAt s 0; given = length rows })))
     × (Acceptable s → countAt s 0 ≤ length rows → length values / entryWords < valuesOf s
-    → r ≡ Refused (NoRoom 3 (valuesOf s) (length values / entryWords)))
+    → r ≡ Refused (NoRoom (record { room = Values; needed = valuesOf s; given = length values / entryWords })))

@@ -5,10 +5,10 @@ use mathlib.Core.List.{List, [], _∷_, _++_}
 use mathlib.Core.Path.{_≡_}
 use lib.ListN.{length, getD, replicate}
 use Rattle.words.specs.Word.{bytesOf}
-use Rattle.wire_value.specs.Layout.{nullMark, maxSize, countAt}
-use Rattle.wire.specs.Plain.{accepts, plain}
-use Rattle.wire.specs.Statement.{TellsPlain}
-use Rattle.promises.specs.Content.{null, rowAt, rowsOf}
+use Rattle.wire.specs.Layout.{nullMark, maxSize, countAt}
+use Rattle.wire_read.specs.Plain.{accepts, plain}
+use Rattle.wire_read.specs.Statement.{TellsPlain}
+use Rattle.wire.specs.Content.{null, rowAt, rowsOf}
 use Rattle.promises.specs.RowsetReader.{rowPlace}
 
 -- two rows: a null row and an empty one

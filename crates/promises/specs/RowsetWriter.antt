@@ -6,13 +6,15 @@ use mathlib.Core.Path.{_≡_}
 use mathlib.Core.Logic.{_⊎_}
 use lib.ListN.{length, getD}
 use Rattle.words.specs.Buffer.{over}
-use Rattle.wire_value.specs.Layout.{nullMark, maxRows, maxValues, maxLength, maxSize, entryWords, boolean, blob, known}
-use Rattle.wire_value.specs.declared.error.WireError.the-variants.{NoRoom}
-use Rattle.wire_table.specs.Writing.{idIn, typeIn, aggregateIn, bitsIn, lengthIn, total}
+use Rattle.wire.specs.Layout.{nullMark, maxRows, maxValues, maxLength, maxSize, entryWords, boolean, blob, known}
+use Rattle.words.specs.declared.outcome.NoRoom as words
+use Rattle.words.specs.declared.outcome.Room.the-variants.{Output}
+use Rattle.wire.specs.declared.error.WireError.the-variants.{NoRoom}
+use Rattle.wire_check.specs.Writing.{idIn, typeIn, aggregateIn, bitsIn, lengthIn, total}
 use Rattle.wire_write.specs.declared.write.Encoded.{Encoded}
 use Rattle.wire_write.specs.declared.write.Encoded.the-variants.{Written, Refused}
-use Rattle.wire_write.specs.Encode.{Encodes}
-use Rattle.promises.specs.Content.{rowsIn, bytesOfRows}
+use Rattle.wire_write.specs.Statement.{Encodes}
+use Rattle.wire.specs.Content.{rowsIn, bytesOfRows}
 
 -- the entry at the word k keeps rule 3 of 18 and the limit of 12
 pub record Allowed (area values : List ℕ) (k : ℕ) : Type 0 where
@@ -48,5 +50,5 @@ RowsetWriterAccepts =
     → let size = length (tableBytes area rows values) in
     ((n : ℕ) → r ≡ Written n → Encodable area rows values × (n ≡ size) × (size ≤ length before) × (after ≡ over (tableBytes area rows values) before))
     × (Encodable area rows values → size ≤ length before → r ≡ Written size)
-    × ((which needed given : ℕ) → r ≡ Refused (NoRoom which needed given) → Encodable area rows values × (length before < size))
-    × (Encodable area rows values → length before < size → r ≡ Refused (NoRoom 4 size (length before)))
+    × ((short : words.NoRoom) → r ≡ Refused (NoRoom short) → Encodable area rows values × (length before < size))
+    × (Encodable area rows values → length before < size → r ≡ Refused (NoRoom (record { room = Output; needed = size; given = length before })))

@@ -6,14 +6,14 @@ use mathlib.Core.List.{List}
 use mathlib.Core.Path.{_≡_}
 use lib.ListN.{length, getD, take, drop}
 use Rattle.words.specs.Buffer.{stretch, over}
-use Rattle.wire_value.specs.Layout.{maxSize, entryWords, boolean, scalar, blob, padding, flag, valuesIn, idAt, typeAt, aggregateAt, lengthAt, scalarAt, countAt, valueCount, entries}
-use Rattle.wire.specs.Reading.{valuesOf}
-use Rattle.wire.specs.Statement.{Decodes, TellsPlain}
-use Rattle.wire.specs.declared.rowset.Decoded.{Decoded}
-use Rattle.wire.specs.declared.rowset.Decoded.the-variants.{Read}
+use Rattle.wire.specs.Layout.{maxSize, entryWords, boolean, scalar, blob, padding, flag, valuesIn, idAt, typeAt, aggregateAt, lengthAt, scalarAt, countAt, valueCount, entries}
+use Rattle.wire_read.specs.Reading.{valuesOf}
+use Rattle.wire_read.specs.Statement.{Decodes, TellsPlain}
+use Rattle.wire_read.specs.declared.rowset.Decoded.{Decoded}
+use Rattle.wire_read.specs.declared.rowset.Decoded.the-variants.{Read}
 use Rattle.wire_write.specs.declared.write.Encoded.the-variants.{Written}
-use Rattle.wire_write.specs.Encode.{Encodes}
-use Rattle.promises.specs.Content.{Row, null, rowAt, rowsOf, rowsIn, bytesOfRows, Writable}
+use Rattle.wire_write.specs.Statement.{Encodes}
+use Rattle.wire.specs.Content.{Row, null, rowAt, rowsOf, rowsIn, bytesOfRows, Writable}
 use Rattle.promises.specs.RowsetReader.{rowPlace, EachRow, EachValue, Acceptable}
 
 -- What `decode_rowset` reads: as many rows and values as it tells; row i of the tables is what stands at row i of the input, for
