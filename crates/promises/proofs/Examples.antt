@@ -1,17 +1,16 @@
--- Document 01's examples that are marked P hold of the definitions: one test, computed over the table. Assumes nothing.
-use mathlib.Core.Path.{_≡_, refl}
-use mathlib.Core.Bool.{true}
+-- The document's examples hold: each is computed from the definitions. Assumes nothing.
+use mathlib.Core.Path.{refl}
 use Rattle.words.specs.Word as Word
 use Rattle.words.specs.Decide as Decide
+use Rattle.words.specs.Text as Number
 use Rattle.crc64.specs.Polynomial as Polynomial
 use Rattle.guid.specs.Text as Text
 use Rattle.packet.specs.Layout as Layout
 use Rattle.packet_read.specs.Reading as Packet
-use Rattle.wire_value.specs.Layout as Value
-use Rattle.wire_value.specs.ValueOrder as ValueOrder
-use Rattle.wire.specs.Reading as Rowset
-use Rattle.promises.specs.Examples.{examples, allHold}
+use Rattle.wire.specs.Layout as Value
+use Rattle.wire_read.specs.Reading as Rowset
+use Rattle.promises.specs.Examples.{Examples}
 
-pub examples-hold : allHold examples ≡ true
-unfolding examples allHold Word.bytesOf Word.word Decide.firstFrom Polynomial.step Polynomial.steps Polynomial.foldByte Polynomial.fold Text.digit Text.spelled Text.textOf Text.digitOf Text.digits Text.some Text.field Text.behind Text.walk Layout.takenBefore Packet.fixedLines Packet.countLines Packet.variableLines Packet.sizeLines Packet.partLines Packet.roomLines Packet.order Packet.reading Value.rowWords Rowset.readValues Rowset.countOrder Rowset.readRow Rowset.readRows Rowset.headOrder Rowset.readRowset Rowset.roomOrder Rowset.reading Value.nextRows Value.nextRow Value.nextValues Value.valueCount
-examples-hold = refl
+pub examples : Examples
+unfolding Word.bytesOf Word.word Decide.firstFrom Polynomial.step Polynomial.steps Polynomial.foldByte Polynomial.fold Number.digit Number.spelled Text.textOf Number.digitOf Text.digits Text.some Text.field Text.behind Text.walk Layout.takenBefore Packet.fixedLines Packet.countLines Packet.variableLines Packet.sizeLines Packet.partLines Packet.roomLines Packet.order Packet.reading Value.rowWords Rowset.valuesLines Rowset.rowsLines Rowset.inputLines Rowset.readingLines Rowset.reading Value.nextRows Value.nextRow Value.nextValues Value.valueCount
+examples = (refl, refl, refl, refl, refl, refl, refl, refl, refl, refl, refl, refl, refl, refl, refl, refl)

@@ -20,9 +20,12 @@ use Rattle.packet.specs.Layout.{count}
 use Rattle.packet.specs.Entries.{entryWords, entries}
 use Rattle.packet_read.proofs.EntryLaws.{length-entries}
 use Rattle.packet_write.specs.Statement.{bytesFor}
-use Rattle.wire_value.specs.Layout.{rowsetBytes}
-use Rattle.wire_value.proofs.Unique.{paper-keeps}
-use Rattle.wire.proofs.RowLaws.{refusal-leaves}
+use Rattle.wire.specs.Layout.{rowsetBytes}
+use Rattle.wire.proofs.PaperLaws.{paper-keeps}
+use Rattle.wire_read.proofs.DecodeLaws.{decodes-told}
+use Rattle.wire_read.specs.declared.rowset.Decoded.the-variants as decoded
+use Rattle.wire_write.proofs.EncodeLaws.{encodes-told}
+use Rattle.wire_write.specs.declared.write.Encoded.the-variants as encoded
 use Rattle.promises.specs.TablesKeep.{PacketTablesKeep, PacketOutputKeeps, RowsetTablesKeep, RowsetOutputKeeps, TextKeeps}
 
 past : (s table : List ℕ) (a : Answer) → drop (entryWords * count s) (afterwards a (entries s) table) ≡ drop (entryWords * count s) table
@@ -46,11 +49,13 @@ packet-output-keeps type flags id area table out error after told =
 
 -- A rowset that is refused leaves both tables.
 pub rowset-tables-keep : RowsetTablesKeep
-rowset-tables-keep = refusal-leaves
+rowset-tables-keep s rows values rows′ values′ refusal told =
+    let tables = decodes-told s rows values (decoded.Refused refusal) rows′ values′ told in
+    (tables .0 ∙ paper-keeps refusal _ rows, tables .1 ∙ paper-keeps refusal _ values)
 
 -- A rowset that is not written leaves the output.
 pub rowset-output-keeps : RowsetOutputKeeps
-rowset-output-keeps area rows values out refusal after told = told .1 ∙ paper-keeps refusal (rowsetBytes area rows values) out
+rowset-output-keeps area rows values out refusal after told = encodes-told area rows values out (encoded.Refused refusal) after told ∙ paper-keeps refusal (rowsetBytes area rows values) out
 
 -- A text that has not the room leaves the buffer.
 pub text-keeps : TextKeeps

@@ -4,7 +4,10 @@ pub mod Checksum
 pub mod Damage
 pub mod Parts
 pub mod RoundTrip
+pub mod RowsetWriter
+pub mod RowsetReader
 pub mod Rowsets
+pub mod RowsetRefuted
 pub mod Guids
 pub mod Examples
 pub mod TablesKeep

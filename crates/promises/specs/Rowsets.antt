@@ -1,59 +1,108 @@
 -- Demand 2 for rowsets: every row in its place. A lookup answers one row per event in the order asked, and a null row for an
 -- event without terms; fold one away, and each later glossary slides to its neighbour's title. Assumes nothing.
-use Prim.Native.Nat.{ℕ, _+_, _*_, _^_, _≤_, _<_}
-use mathlib.Core.Bool.{true}
+use Prim.Native.Nat.{ℕ, _+_, _*_, _/_, _^_, _≤_, _<_}
+use mathlib.Core.Bool.{Bool, true}
 use mathlib.Core.List.{List}
 use mathlib.Core.Path.{_≡_}
-use lib.ListN.{length, getD, take}
-use Rattle.words.specs.Buffer.{stretch}
-use Rattle.wire_value.specs.Layout.{maxSize, entryWords, valuesIn, countAt, nextRows, valueCount, entries, rowWords, valueWords, rowsetBytes}
-use Rattle.wire.specs.Reading.{reading}
-use Rattle.wire.specs.Plain.{accepts, plainRows, plain}
-use Rattle.wire.specs.Alike.{Alike}
+use lib.ListN.{length, getD, take, drop}
+use Rattle.words.specs.Buffer.{stretch, over}
+use Rattle.wire.specs.Layout.{maxSize, entryWords, boolean, scalar, blob, padding, flag, valuesIn, idAt, typeAt, aggregateAt, lengthAt, scalarAt, countAt, valueCount, entries}
+use Rattle.wire_read.specs.Reading.{valuesOf}
+use Rattle.wire_read.specs.Statement.{Decodes, TellsPlain}
+use Rattle.wire_read.specs.declared.rowset.Decoded.{Decoded}
+use Rattle.wire_read.specs.declared.rowset.Decoded.the-variants.{Read}
 use Rattle.wire_write.specs.declared.write.Encoded.the-variants.{Written}
-use Rattle.wire_write.specs.Encode.{Encodes}
-use Rattle.wire_round.specs.Tables.{GoodTables, ReadBack}
+use Rattle.wire_write.specs.Statement.{Encodes}
+use Rattle.wire.specs.Content.{Row, null, rowAt, rowsOf, rowsIn, bytesOfRows, Writable}
+use Rattle.promises.specs.RowsetReader.{rowPlace, EachRow, EachValue, Acceptable}
 
--- Writing tables that keep the limits and rule 3, and reading the bytes, gives the same rows and values, nulls and empties each in
--- their place, offsets apart; blobs have the same bytes.
-abbrev pub RowsetRoundTrip : Type 0
-RowsetRoundTrip = (area rows values : List ℕ) → GoodTables area rows values → ReadBack area rows values (rowsetBytes area rows values)
-
--- Row i of the answer is what stands at row i of the input, for every i, a null row too: its word is the count that stands where i
--- rows end, and its entries are those of the values behind that count.
+-- What `decode_rowset` reads: as many rows and values as it tells; row i of the tables is what stands at row i of the input, for
+-- every i, a null row too, its word the count that stands there and its entries those of the values behind that count; together
+-- the tables hold the input's content; and the words past the entries are kept.
 abbrev pub RowsInOrder : Type 0
 RowsInOrder =
-    (s : List ℕ) (i : ℕ) → i < countAt s 0
-    → (getD (rowWords s (countAt s 0) 8) i 0 ≡ countAt s (nextRows s i 8))
-    × (stretch (valueWords s (countAt s 0) 8) (entryWords * valueCount s i 8) (entryWords * valuesIn (countAt s (nextRows s i 8)))
-    ≡ entries s (valuesIn (countAt s (nextRows s i 8))) (nextRows s i 8 + 8))
+    (s rows values : List ℕ) (n m : ℕ) (rows′ values′ : List ℕ) → Decodes s rows values (Read n m) rows′ values′
+    → (n ≡ countAt s 0)
+    × (m ≡ valuesOf s)
+    × ((i : ℕ) → i < n → getD rows′ i 0 ≡ countAt s (rowPlace s i))
+    × ((i : ℕ) → i < n
+    → stretch values′ (entryWords * valueCount s i 8) (entryWords * valuesIn (countAt s (rowPlace s i)))
+    ≡ entries s (valuesIn (countAt s (rowPlace s i))) (rowPlace s i + 8))
+    × (rowsIn s (take n rows′) values′ ≡ rowsOf s)
+    × (drop n rows′ ≡ drop n rows)
+    × (drop (entryWords * m) values′ ≡ drop (entryWords * m) values)
 
--- Two inputs that differ only in padding, in length words of types 2 to 6, in which non-zero byte an aggregate is or which non-zero
--- word a boolean is, read alike.
-abbrev pub IgnoredBytes : Type 0
-IgnoredBytes =
-    (s t : List ℕ) → Alike s t → (rows values : ℕ)
-    → (reading s rows values ≡ reading t rows values)
-    × (rowWords s (countAt s 0) 8 ≡ rowWords t (countAt t 0) 8)
-    × (valueWords s (countAt s 0) 8 ≡ valueWords t (countAt t 0) 8)
+-- row i of an input's content is the row that stands at row i
+abbrev pub RowsByPlace : Type 0
+RowsByPlace = (s : List ℕ) (i : ℕ) → i < countAt s 0 → getD (rowsOf s) i null ≡ rowAt s (rowPlace s i)
 
--- The plain-form check says yes exactly where the input is at most 2^30 bytes, the reader accepts it, room aside, and every value of
--- it is plain: aggregate bytes and boolean words 0 or 1, no length word beside a scalar, padding zero.
-abbrev pub PlainExactly : Type 0
-PlainExactly =
-    (s : List ℕ)
-    → (plain s ≡ true → (length s ≤ maxSize) × (accepts s ≡ true) × (plainRows s (countAt s 0) 8 ≡ true))
-    × ((length s ≤ maxSize) → accepts s ≡ true → plainRows s (countAt s 0) 8 ≡ true → plain s ≡ true)
+-- The bytes of content that can be written are accepted and hold that content, nulls and empties each in their place.
+abbrev pub RowsetRoundTrip : Type 0
+RowsetRoundTrip = (rows : List Row) → Writable rows → Acceptable (bytesOfRows rows) × (rowsOf (bytesOfRows rows) ≡ rows)
 
--- What the writer writes has the plain form.
-abbrev pub WrittenIsPlain : Type 0
-WrittenIsPlain =
-    (area rows values : List ℕ) → GoodTables area rows values → length (rowsetBytes area rows values) ≤ maxSize → plain (rowsetBytes area rows values) ≡ true
-
--- The same from what the writer says: where `encode_rowset` has answered, by its statement `Encodes`, that it wrote n bytes, those
--- bytes are read back as the rows and values that were given, and have the plain form. (A table's words are of 64 bits.)
+-- What `encode_rowset` wrote, `decode_rowset` reads into tables that have the room: the same rows, offsets apart, and as many; and
+-- `is_plain` says yes. (A table's words are of 64 bits.)
 abbrev pub RowsetEncodeThenDecode : Type 0
 RowsetEncodeThenDecode =
-    (area rows values out : List ℕ) (n : ℕ) (after : List ℕ) → ((i : ℕ) → getD values i 0 < 2 ^ 64)
+    (area rows values out : List ℕ) (n : ℕ) (after : List ℕ)
+    (rowTable valueTable : List ℕ) (r : Decoded) (rowTable′ valueTable′ : List ℕ) (says : Bool)
+    → ((i : ℕ) → getD values i 0 < 2 ^ 64)
     → Encodes area rows values out (Written n) after
-    → ReadBack area rows values (take n after) × (plain (take n after) ≡ true)
+    → length rows ≤ length rowTable → length values ≤ length valueTable
+    → Decodes (take n after) rowTable valueTable r rowTable′ valueTable′
+    → TellsPlain (take n after) says
+    → (r ≡ Read (length rows) (length values / entryWords))
+    × (rowTable′ ≡ over rows rowTable)
+    × (rowsIn (take n after) (take (length rows) rowTable′) valueTable′ ≡ rowsIn area rows values)
+    × (says ≡ true)
+
+-- Two inputs that differ only in padding, in the length words of types 2 to 6, in which non-zero byte an aggregate is or which
+-- non-zero word a boolean is: every other byte is the same.
+
+-- the n bytes from `from` on are the same
+abbrev pub Agree : List ℕ → List ℕ → ℕ → ℕ → Type 0
+Agree s t from n = (i : ℕ) → i < n → getD s (from + i) 0 ≡ getD t (from + i) 0
+
+pub record SameValue (s t : List ℕ) (at : ℕ) : Type 0 where
+  pub id : Agree s t at 2
+  pub type : Agree s t (at + 2) 1
+  pub aggregate : flag (aggregateAt s at) ≡ flag (aggregateAt t at)
+  pub blob-length : blob (typeAt s at) ≡ true → Agree s t (at + 4) 4
+  pub blob-bytes : blob (typeAt s at) ≡ true → Agree s t (at + 8) (lengthAt s at)
+  pub scalar-word : scalar (typeAt s at) ≡ true → (typeAt s at ≡ boolean → ⊥) → Agree s t (at + 8) 8
+  pub boolean-word : typeAt s at ≡ boolean → flag (scalarAt s at) ≡ flag (scalarAt t at)
+
+pub record DifferOnlyThere (s t : List ℕ) : Type 0 where
+  pub size : length s ≡ length t
+  pub row-count : Agree s t 0 8
+  pub counts : EachRow s (λ (at : ℕ). Agree s t at 8)
+  pub values : EachValue s (SameValue s t)
+
+-- They read alike: the same answer, the same tables, the same content, blobs' bytes too.
+abbrev pub IgnoredBytes : Type 0
+IgnoredBytes =
+    (s t : List ℕ) → DifferOnlyThere s t
+    → (rowsOf s ≡ rowsOf t)
+    × ((rows values : List ℕ) (r r′ : Decoded) (rows′ values′ rows″ values″ : List ℕ)
+    → Decodes s rows values r rows′ values′ → Decodes t rows values r′ rows″ values″
+    → (r ≡ r′) × (rows′ ≡ rows″) × (values′ ≡ values″))
+
+-- The plain form, document 01: "every aggregate byte is 0 or 1, the four scalar types have length word 0, boolean words are 0 or 1,
+-- and padding is zero"
+pub record PlainAt (s : List ℕ) (at : ℕ) : Type 0 where
+  pub aggregate-byte : aggregateAt s at ≤ 1
+  pub length-word : scalar (typeAt s at) ≡ true → lengthAt s at ≡ 0
+  pub boolean-word : typeAt s at ≡ boolean → scalarAt s at ≤ 1
+  pub padding-zero : blob (typeAt s at) ≡ true → (i : ℕ) → i < padding (lengthAt s at) → getD s (at + 8 + lengthAt s at + i) 0 ≡ 0
+
+-- `is_plain` says yes exactly where the input is at most 2^30 bytes, the reader accepts it, room aside, and every value is plain.
+abbrev pub PlainExactly : Type 0
+PlainExactly =
+    (s : List ℕ) (says : Bool) → TellsPlain s says
+    → (says ≡ true → (length s ≤ maxSize) × Acceptable s × EachValue s (PlainAt s))
+    × (length s ≤ maxSize → Acceptable s → EachValue s (PlainAt s) → says ≡ true)
+
+-- What is written has the plain form.
+abbrev pub WrittenIsPlain : Type 0
+WrittenIsPlain =
+    (rows : List Row) (says : Bool) → Writable rows → length (bytesOfRows rows) ≤ maxSize → TellsPlain (bytesOfRows rows) says → says ≡ true

@@ -19,11 +19,11 @@ use Rattle.packet_read.specs.Reading.{Limits}
 use Rattle.packet_read.specs.Statement.{Decodes}
 use Rattle.packet_write.specs.declared.Encoded.the-variants as packets
 use Rattle.packet_write.specs.Statement.{Encodes}
-use Rattle.wire_value.specs.declared.error.WireError.{WireError}
-use Rattle.wire.specs.Statement as rowset
-use Rattle.wire.specs.declared.rowset.Decoded.the-variants as decoded
+use Rattle.wire.specs.declared.error.WireError.{WireError}
+use Rattle.wire_read.specs.Statement as rowset
+use Rattle.wire_read.specs.declared.rowset.Decoded.the-variants as decoded
 use Rattle.wire_write.specs.declared.write.Encoded.the-variants as rowsets
-use Rattle.wire_write.specs.Encode as rowset-write
+use Rattle.wire_write.specs.Statement as rowset-write
 
 -- the reader of packets: what is not taken leaves the table, and what is taken leaves the words past its entries
 abbrev pub PacketTablesKeep : Type 0

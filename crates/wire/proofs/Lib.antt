@@ -1,9 +1,7 @@
--- Laws of reading.
-pub mod Examples
-pub mod WalkLaws
-pub mod FillLaws
-pub mod DecodeLaws
-pub mod AlikeLaws
-pub mod RowLaws
+-- Laws of types and kinds, of the layout, of refusals and their numbers, and one result for each statement.
+pub mod TypeLaws
+pub mod KindLaws
+pub mod LayoutLaws
+pub mod PaperLaws
+pub mod NeedLaws
 pub mod Unique
-pub mod PlainLaws

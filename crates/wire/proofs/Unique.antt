@@ -1,32 +1,42 @@
--- One result for each statement, and one exit of each lent table. Assumes nothing.
-use mathlib.Core.Path.{_≡_, sym, _∙_, ap}
-use mathlib.Core.List.{List}
+-- One result for each statement: two results that meet a public function's statement are equal. Assumes nothing.
 use Prim.Native.Nat.{ℕ}
-use Rattle.words.specs.Answer.{Answer, afterwards}
+use mathlib.Core.List.{List, []}
+use mathlib.Core.Path.{_≡_, refl, ap}
+use Rattle.words.specs.Answer.{Answer, accepted, more, refused}
+use Rattle.words.specs.Paper.{Tells, outcome}
 use Rattle.words.specs.Statement.{OneResult}
-use Rattle.words.proofs.Unique.{equal-to-one}
-use Rattle.wire_value.specs.Layout.{countAt, rowWords, valueWords}
-use Rattle.wire_value.proofs.Unique.{paper-injective, paper-never-accepted}
-use Rattle.wire.specs.Plain.{plain}
-use Rattle.wire.specs.Statement.{paperDecoded, Decodes, TellsPlain}
-use Rattle.wire.specs.declared.rowset.Decoded.{Decoded}
-use Rattle.wire.specs.declared.rowset.Decoded.the-variants.{Read, Refused}
+use Rattle.words.proofs.Unique.{equal-to-one, means-one}
+use Rattle.wire.specs.Layout.{valuesIn, padded, flag}
+use Rattle.wire.specs.Kind.{kindOf}
+use Rattle.wire.specs.Paper.{paper}
+use Rattle.wire.specs.Statement.{CountsValues, Pads, Flags, IsKind}
+use Rattle.wire.specs.Need.{needing, paperNeeded, Needs}
+use Rattle.wire.specs.declared.error.WireError.{WireError}
+use Rattle.wire.specs.declared.need.Needed.{Needed}
+use Rattle.wire.specs.declared.need.Needed.the-variants.{Enough, Short}
+use Rattle.wire.proofs.PaperLaws.{unpaper, paper-back, refusalBack, refusal-back}
 
--- document 01's answer tells the code's
-pub decoded-injective : (r r′ : Decoded) → paperDecoded r ≡ paperDecoded r′ → r ≡ r′
-decoded-injective (Read rows values) (Read rows′ values′) e = let first : rows ≡ rows′ = cc in let second : values ≡ values′ = cc in rw (first, second)
-decoded-injective (Read rows values) (Refused refusal) e = absurd (paper-never-accepted refusal _ _ (sym e))
-decoded-injective (Refused refusal) (Read rows values) e = absurd (paper-never-accepted refusal _ _ e)
-decoded-injective (Refused refusal) (Refused refusal′) e = ap Refused (paper-injective refusal refusal′ e)
+pub values-in-unique : (count : ℕ) → OneResult (CountsValues count)
+values-in-unique count = equal-to-one (valuesIn count)
 
-pub decode-rowset-unique : (s rows values : List ℕ) (r r′ : Decoded) (a a′ b b′ : List ℕ) → Decodes s rows values r a b → Decodes s rows values r′ a′ b′
-    → (r ≡ r′) × (a ≡ a′) × (b ≡ b′)
-decode-rowset-unique s rows values r r′ a a′ b b′ p q =
-    let same : paperDecoded r ≡ paperDecoded r′ = p .0 ∙ sym (q .0) in (
-      decoded-injective r r′ same,
-      p .1 ∙ ap (λ (answer : Answer). afterwards answer (rowWords s (countAt s 0) 8) rows) same ∙ sym (q .1),
-      p .2 ∙ ap (λ (answer : Answer). afterwards answer (valueWords s (countAt s 0) 8) values) same ∙ sym (q .2),
-    )
+pub padded-unique : (n : ℕ) → OneResult (Pads n)
+padded-unique n = equal-to-one (padded n)
 
-pub is-plain-unique : (s : List ℕ) → OneResult (TellsPlain s)
-is-plain-unique s = equal-to-one (plain s)
+pub kind-of-unique : (type : ℕ) → OneResult (IsKind type)
+kind-of-unique type = equal-to-one (kindOf type)
+
+pub outcome-unique : (error : WireError) → OneResult (Tells (paper error))
+outcome-unique error = equal-to-one (outcome (paper error))
+
+pub flag-unique : (n : ℕ) → OneResult (Flags n)
+flag-unique n = equal-to-one (flag n)
+
+abbrev neededOf : Answer → Needed
+neededOf a = refusalBack (λ n fields. Enough) Short a
+
+needed-back : (r : Needed) → neededOf (paperNeeded r) ≡ r
+needed-back Enough = refl
+needed-back (Short refusal) = refusal-back (λ n fields. Enough) Short refusal
+
+pub need-at-unique : (s : List ℕ) (at n : ℕ) → OneResult (Needs s at n)
+need-at-unique s at n = means-one paperNeeded neededOf needed-back (needing s at n (accepted 0 []))

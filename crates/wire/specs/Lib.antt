@@ -1,6 +1,8 @@
--- The order in which a rowset is read, the plain form, what the private stages hand on, and the statements of the public functions.
-pub mod Reading
-pub mod Plain
-pub mod Alike
-pub mod Stage
+-- What a rowset is: kinds of values, layout, the content of rows and its bytes, document 01's numbers for refusals, and the
+-- statements of this crate's functions.
+pub mod Layout
+pub mod Kind
+pub mod Content
+pub mod Paper
+pub mod Need
 pub mod Statement

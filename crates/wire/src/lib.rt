@@ -1,5 +1,5 @@
-// Rowsets read into lent tables, and the plain form: the reading half of the Rust's `wire.rs`.
-pub mod fill;
-pub mod plain;
-pub mod rowset;
-pub mod walk;
+// What a rowset is: the kinds of its values, the sizes and limits that readers and writer share, and what can be wrong with one.
+pub mod error;
+pub mod kind;
+pub mod layout;
+pub mod need;

@@ -6,7 +6,7 @@ use native.Mathlib.Nat.{zero-add, add-mul-mod-self-left, add-mul-div-left, mod-e
 use native.Mathlib.Omega.{arith}
 use Rattle.words.specs.Word.{word, Bytes}
 use Rattle.words.proofs.WordLaws.{word-lt}
-use Rattle.wire_value.specs.Layout.{idAt, typeAt, aggregateAt, lengthAt}
+use Rattle.wire.specs.Layout.{idAt, typeAt, aggregateAt, lengthAt}
 use Rattle.wire_value.specs.ValueOf.{headerAt}
 use Rattle.wire_value.specs.Statement.{ReadsHeader}
 use Rattle.wire_value.specs.declared.value.Header.{Header}

@@ -10,11 +10,13 @@ use lib.ListN.{length}
 use borrow.Author.Tests.{eq-eqb, ne-eqb}
 use Rattle.words.specs.Answer.{Answer, accepted, more, refuse}
 use Rattle.words.specs.Decide.{pick, decide}
-use Rattle.wire_value.specs.Layout.{scalar, blob, known, typeAt, scalarAt, aggregateAt, lengthAt, nextValue, entry, fourth, fifth, bitsOf, flag}
-use Rattle.wire_value.specs.ValueOrder.{lacks, valueOrder, valueReading}
+use Rattle.wire.specs.Layout.{boolean, scalar, blob, known, typeAt, scalarAt, aggregateAt, lengthAt, nextValue, entry, fourth, fifth, bitsOf, flag}
+use Rattle.wire.specs.Need.{lacks}
+use Rattle.wire_value.specs.ValueOrder.{valueOrder, valueReading}
 use Rattle.wire_value.specs.ValueOf.{valueOf, bitsAt, headerAt, valueAt}
-use Rattle.wire_value.specs.Statement.{ChecksValue, Lies, typeOf, offsetOr, lengthOf, bit, paperValue, ReadsValue}
-use Rattle.wire_value.specs.declared.error.WireError.{WireError}
+use Rattle.wire_value.specs.Paper.{typeOf, offsetOr, lengthOf, bit, paperValue}
+use Rattle.wire_value.specs.Statement.{ChecksValue, Lies, ReadsValue}
+use Rattle.wire.specs.declared.error.WireError.{WireError}
 use Rattle.wire_value.specs.declared.value.Value.{Value}
 use Rattle.wire_value.specs.declared.value.Header.{Header}
 use Rattle.wire_value.specs.declared.value.UnversionedValue.{UnversionedValue}
@@ -22,7 +24,7 @@ use Rattle.wire_value.specs.declared.value.Checked.{Checked}
 use Rattle.wire_value.specs.declared.value.Checked.the-variants.{Passed, Failed}
 use Rattle.wire_value.specs.declared.value.ReadValue.the-variants.{Got, Refused}
 use Rattle.wire_value.proofs.HeaderLaws.{header-kind}
-use Rattle.wire_value.proofs.TypeLaws.{scalar-yes, scalar-low, scalar-high, unknown-low, unknown-middle, unknown-high}
+use Rattle.wire.proofs.TypeLaws.{scalar-yes, unknown-low, unknown-middle, unknown-high}
 
 never-more : (number : ℕ) (values : List ℕ) → refuse number values ≡ more → ⊥
 never-more number values h = let z : _≡_ {A = ℕ} 0 1 = cc in omega arith
@@ -40,28 +42,19 @@ module _ (s : List ℕ) (at : ℕ) where
   unfolding valueOrder
   passes-known passes = second-silent (lacks s at 8) (known (typeAt s at)) 9 14 (at ∷ (8 - (length s - at)) ∷ []) (typeAt s at ∷ []) _ (passes more)
 
-  pub bits-none-low : (kind : ℕ) → kind ≡ typeAt s at → kind < 3 → 0 ≡ bitsAt s at
-  unfolding bitsAt
-  bits-none-low kind e h = rw (scalar-low (typeAt s at) (omega arith))
-
-  pub bits-none-high : (kind : ℕ) → kind ≡ typeAt s at → 6 < kind → 0 ≡ bitsAt s at
-  unfolding bitsAt
-  bits-none-high kind e h = rw (scalar-high (typeAt s at) (omega arith))
-
-  module _ (kind n : ℕ) (e : kind ≡ typeAt s at) (is : n ≡ scalarAt s at) (low : 2 < kind) where
-    pub bits-word : kind < 6 → n ≡ bitsAt s at
+  -- the bits by the kind: none, the word, or whether a boolean's word is 0
+  module _ (kind : ℕ) (e : kind ≡ typeAt s at) where
+    pub bits-none : scalar kind ≡ false → 0 ≡ bitsAt s at
     unfolding bitsAt
-    bits-word h = rw (scalar-yes (typeAt s at) (omega arith) (omega arith), ne-eqb (typeAt s at) 6 (λ x. omega arith)) is
+    bits-none none = let isnt : scalar (typeAt s at) ≡ false = rw e at none in rw isnt
 
-    bits-boolean : kind ≡ 6 → flag n ≡ bitsAt s at
+    pub bits-word : 2 < kind → kind < boolean → (n : ℕ) → n ≡ scalarAt s at → n ≡ bitsAt s at
     unfolding bitsAt
-    bits-boolean h = rw (scalar-yes (typeAt s at) (omega arith) (omega arith), eq-eqb (typeAt s at) 6 (omega arith), is)
+    bits-word low high n is = rw (scalar-yes (typeAt s at) (omega arith) (omega arith), ne-eqb (typeAt s at) boolean (λ x. omega arith)) is
 
-    pub bits-false : kind ≡ 6 → n ≡ 0 → 0 ≡ bitsAt s at
-    bits-false h none = sym (rw (eq-eqb n 0 none)) ∙ bits-boolean h
-
-    pub bits-true : kind ≡ 6 → (n ≡ 0 → ⊥) → 1 ≡ bitsAt s at
-    bits-true h some = sym (rw (ne-eqb n 0 some)) ∙ bits-boolean h
+    pub bits-boolean : kind ≡ boolean → (n r : ℕ) → n ≡ scalarAt s at → r ≡ flag n → r ≡ bitsAt s at
+    unfolding bitsAt
+    bits-boolean h n r is told = rw (scalar-yes (typeAt s at) (omega arith) (omega arith), eq-eqb (typeAt s at) boolean (omega arith), told, is)
 
 -- A property of the eight types holds of every known type
 

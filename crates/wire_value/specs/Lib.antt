@@ -1,7 +1,6 @@
--- What a rowset is on the wire, the order in which a value is read, document 01's numbers for the code's refusals, and the
--- statements of this crate's functions.
-pub mod Layout
+-- The order in which a value is read, the Rust's value, document 01's answers, and the statements of this crate's functions.
 pub mod ValueOrder
-pub mod Refusal
 pub mod ValueOf
+pub mod Paper
 pub mod Statement
+pub mod Stages

@@ -5,7 +5,7 @@ use mathlib.Core.List.{[], _∷_, List}
 use lib.IntN.{ℤ, pos, negsuc}
 use lib.Ieee.{binary64, ofBits}
 use Rattle.words.specs.Decide.{pick, _⇒_, decide, _<?_, _=?_, _≠?_}
-use Rattle.wire_value.specs.Layout.{scalar, bitsOf, idAt, typeAt, aggregateAt, lengthAt, scalarAt, nextValue}
+use Rattle.wire.specs.Layout.{int64, uint64, double, boolean, string, any, composite, scalar, bitsOf, idAt, typeAt, aggregateAt, lengthAt, scalarAt, nextValue}
 use Rattle.wire_value.specs.declared.value.Value.{Value}
 use Rattle.wire_value.specs.declared.value.Value.the-variants.{Null, Int64, Uint64, Double, Boolean, String, Any, Composite}
 use Rattle.wire_value.specs.declared.value.Header.{Header}
@@ -19,13 +19,13 @@ signed bits = pick (bits <? (2 ^ 63)) (pos bits) (negsuc (2 ^ 64 - suc bits))
 unfoldable pub valueOf : ℕ → ℕ → ℕ → ℕ → Value
 valueOf type bits offset n =
     decide
-    (type =? 3 ⇒ Int64 (signed bits)
-    ∷ type =? 4 ⇒ Uint64 bits
-    ∷ type =? 5 ⇒ Double (ofBits binary64 bits)
-    ∷ type =? 6 ⇒ Boolean (bits ≠? 0)
-    ∷ type =? 16 ⇒ String offset n
-    ∷ type =? 17 ⇒ Any offset n
-    ∷ type =? 18 ⇒ Composite offset n
+    (type =? int64 ⇒ Int64 (signed bits)
+    ∷ type =? uint64 ⇒ Uint64 bits
+    ∷ type =? double ⇒ Double (ofBits binary64 bits)
+    ∷ type =? boolean ⇒ Boolean (bits ≠? 0)
+    ∷ type =? string ⇒ String offset n
+    ∷ type =? any ⇒ Any offset n
+    ∷ type =? composite ⇒ Composite offset n
     ∷ [])
     Null
 

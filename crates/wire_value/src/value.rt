@@ -3,13 +3,32 @@ ghost use mathlib.Core.Path.{_≡_};
 ghost use Prim.Native.Nat.{_+_, _≤_};
 ghost use lib.ListN.{length};
 ghost use lib.Ieee.{binary64, ofBits};
-ghost use Rattle.wire_value.specs.Layout.{typeAt};
+ghost use Rattle.words.specs.Paper.{Tells};
+ghost use Rattle.wire.specs.Layout.{typeAt};
 ghost use Rattle.wire_value.specs.ValueOf.{signed, valueOf, bitsAt, headerAt};
-ghost use Rattle.wire_value.specs.Statement.{Pads, ReadsHeader, ChecksValue, Lies, ReadsValue};
-use super::error::WireError;
+ghost use Rattle.wire_value.specs.Paper.{typeOf, offsetOr, lengthOf, bit, paperValue};
+ghost use Rattle.wire_value.specs.Statement.{ReadsHeader, ChecksValue, Lies, ReadsValue};
+ghost use Rattle.wire_value.specs.Stages.{Looks};
+use wire::error::WireError;
+use wire::kind::ANY;
+use wire::kind::BOOLEAN;
+use wire::kind::COMPOSITE;
+use wire::kind::DOUBLE;
+use wire::kind::INT64;
+use wire::kind::Kind;
+use wire::kind::NULL;
+use wire::kind::STRING;
+use wire::kind::UINT64;
+use wire::kind::kind_of;
+use wire::layout::MAX_VALUE_LENGTH;
+use wire::layout::WORD_SIZE;
+use wire::layout::flag;
+use wire::layout::padded;
+use wire::need::Needed;
+use wire::need::need_at;
+use words::outcome::ACCEPTED;
+use words::outcome::Outcome;
 use words::read::read_u64;
-
-pub const MAX_VALUE_LENGTH: u32 = 16 * 1024 * 1024;
 
 // Blobs as offset and length.
 pub enum Value {
@@ -65,12 +84,16 @@ pub fn read_header(input: &[u8], at: usize) -> Header
     }
 }
 
-// The length with its padding to a multiple of eight.
-pub fn padded(length: u32) -> usize
-    ensures { λ r. ⌜ Pads length r ⌝ }
+// The payload of so many bytes: it is there, or 9.
+fn check_bytes(input: &[u8], at: usize, header: Header, size: usize) -> Checked
+    requires { ⌜ (at + 8 ≤ length (now input)) × (header ≡ headerAt (now input) at) × Looks (now input) at size ⌝ }
+    ensures { λ r. ⌜ ChecksValue (now (input .entry)) at r ⌝ }
+    ensures { λ r. ⌜ Lies (now (input .entry)) r ⌝ }
 {
-    let n = length as usize;
-    n + (8 - n % 8) % 8
+    match need_at(input, at + WORD_SIZE, size) {
+        Needed::Short(refusal) => Checked::Failed(refusal),
+        Needed::Enough => Checked::Passed(header, at + WORD_SIZE + size),
+    }
 }
 
 // The checks after the header.
@@ -80,59 +103,30 @@ fn check_payload(input: &[u8], at: usize, header: Header) -> Checked
     ensures { λ r. ⌜ Lies (now (input .entry)) r ⌝ }
 {
     let kind = header.kind;
-    let left = input.len() - (at + 8);
-    if kind == 2 {
-        return Checked::Passed(header, at + 8);
-    }
-    if kind < 3 {
-        return Checked::Failed(WireError::UnknownValueType(kind));
-    }
-    if kind < 7 {
-        if left < 8 {
-            return Checked::Failed(WireError::Truncated {
-                offset: at + 8,
-                needed: 8 - left,
-            });
+    match kind_of(kind as u64) {
+        Kind::Unknown => Checked::Failed(WireError::UnknownValueType(kind)),
+        Kind::Null => check_bytes(input, at, header, 0),
+        Kind::Word => check_bytes(input, at, header, WORD_SIZE),
+        Kind::Boolean => check_bytes(input, at, header, WORD_SIZE),
+        Kind::Blob => {
+            let length = header.length;
+            if MAX_VALUE_LENGTH < length {
+                return Checked::Failed(WireError::ValueTooLong { length });
+            }
+            check_bytes(input, at, header, padded(length))
         }
-        return Checked::Passed(header, at + 8 + 8);
     }
-    if kind < 16 {
-        return Checked::Failed(WireError::UnknownValueType(kind));
-    }
-    if 18 < kind {
-        return Checked::Failed(WireError::UnknownValueType(kind));
-    }
-    let length = header.length;
-    if MAX_VALUE_LENGTH < length {
-        return Checked::Failed(WireError::ValueTooLong { length });
-    }
-    let size = padded(length);
-    if left < size {
-        return Checked::Failed(WireError::Truncated {
-            offset: at + 8,
-            needed: size - left,
-        });
-    }
-    Checked::Passed(header, at + 8 + size)
 }
 
+// The checks of the value at `at`, in their order: its header and where the next value begins, or the first refusal.
 pub fn check_value(input: &[u8], at: usize) -> Checked
     ensures { λ r. ⌜ ChecksValue (now (input .entry)) at r ⌝ }
     ensures { λ r. ⌜ Lies (now (input .entry)) r ⌝ }
 {
-    if input.len() <= at {
-        return Checked::Failed(WireError::Truncated {
-            offset: at,
-            needed: 8,
-        });
+    match need_at(input, at, WORD_SIZE) {
+        Needed::Short(refusal) => Checked::Failed(refusal),
+        Needed::Enough => check_payload(input, at, read_header(input, at)),
     }
-    if input.len() - at < 8 {
-        return Checked::Failed(WireError::Truncated {
-            offset: at,
-            needed: 8 - (input.len() - at),
-        });
-    }
-    check_payload(input, at, read_header(input, at))
 }
 
 fn int64(bits: u64) -> i64
@@ -154,28 +148,28 @@ fn double(bits: u64) -> f64
     f64::from_bits(bits)
 }
 
-fn value_of(kind: u8, bits: u64, offset: usize, length: usize) -> Value
+fn value_of(kind: u64, bits: u64, offset: usize, length: usize) -> Value
     ensures { λ r. ⌜ r ≡ valueOf kind bits offset length ⌝ }
 {
-    if kind == 3 {
+    if kind == INT64 {
         return Value::Int64(int64(bits));
     }
-    if kind == 4 {
+    if kind == UINT64 {
         return Value::Uint64(bits);
     }
-    if kind == 5 {
+    if kind == DOUBLE {
         return Value::Double(double(bits));
     }
-    if kind == 6 {
+    if kind == BOOLEAN {
         return Value::Boolean(bits != 0);
     }
-    if kind == 16 {
+    if kind == STRING {
         return Value::String(offset, length);
     }
-    if kind == 17 {
+    if kind == ANY {
         return Value::Any(offset, length);
     }
-    if kind == 18 {
+    if kind == COMPOSITE {
         return Value::Composite(offset, length);
     }
     Value::Null
@@ -186,22 +180,16 @@ fn bits_at(input: &[u8], at: usize, kind: u8) -> u64
     requires { ⌜ (at + 8 ≤ length (now input)) × (kind ≡ typeAt (now input) at) ⌝ }
     ensures { λ r. ⌜ r ≡ bitsAt (now (input .entry)) at ⌝ }
 {
-    if kind < 3 {
-        return 0;
+    match kind_of(kind as u64) {
+        Kind::Null => 0,
+        Kind::Unknown => 0,
+        Kind::Blob => 0,
+        Kind::Word => read_u64(input, at + WORD_SIZE),
+        Kind::Boolean => flag(read_u64(input, at + WORD_SIZE)),
     }
-    if 6 < kind {
-        return 0;
-    }
-    let word = read_u64(input, at + 8);
-    if kind < 6 {
-        return word;
-    }
-    if word == 0 {
-        return 0;
-    }
-    1
 }
 
+// The value at `at`, or the first refusal.
 pub fn read_value(input: &[u8], at: usize) -> ReadValue
     ensures { λ r. ⌜ ReadsValue (now (input .entry)) at r ⌝ }
 {
@@ -213,10 +201,86 @@ pub fn read_value(input: &[u8], at: usize) -> ReadValue
             ReadValue::Got(UnversionedValue {
                 id: header.id,
                 aggregate: header.aggregate != 0,
-                value: value_of(kind, bits, at + 8, header.length as usize),
+                value: value_of(kind as u64, bits, at + WORD_SIZE, header.length as usize),
                 bits,
                 next,
             })
+        }
+    }
+}
+
+// The type's code.
+fn value_type(value: Value) -> u64
+    ensures { λ r. ⌜ r ≡ typeOf value ⌝ }
+{
+    match value {
+        Value::Null => NULL,
+        Value::Int64(_) => INT64,
+        Value::Uint64(_) => UINT64,
+        Value::Double(_) => DOUBLE,
+        Value::Boolean(_) => BOOLEAN,
+        Value::String(_, _) => STRING,
+        Value::Any(_, _) => ANY,
+        Value::Composite(_, _) => COMPOSITE,
+    }
+}
+
+fn value_word(value: Value, bits: u64) -> u64
+    ensures { λ r. ⌜ r ≡ offsetOr value bits ⌝ }
+{
+    match value {
+        Value::Null => bits,
+        Value::Int64(_) => bits,
+        Value::Uint64(_) => bits,
+        Value::Double(_) => bits,
+        Value::Boolean(_) => bits,
+        Value::String(offset, _) => offset as u64,
+        Value::Any(offset, _) => offset as u64,
+        Value::Composite(offset, _) => offset as u64,
+    }
+}
+
+fn value_length(value: Value) -> u64
+    ensures { λ r. ⌜ r ≡ lengthOf value ⌝ }
+{
+    match value {
+        Value::Null => 0,
+        Value::Int64(_) => 0,
+        Value::Uint64(_) => 0,
+        Value::Double(_) => 0,
+        Value::Boolean(_) => 0,
+        Value::String(_, length) => length as u64,
+        Value::Any(_, length) => length as u64,
+        Value::Composite(_, length) => length as u64,
+    }
+}
+
+fn bit(flag: bool) -> u64
+    ensures { λ r. ⌜ r ≡ bit flag ⌝ }
+{
+    if flag { 1 } else { 0 }
+}
+
+// The value's five words and the next offset, or the refusal, as document 01's number and values.
+pub fn outcome(answer: ReadValue) -> Outcome
+    ensures { λ r. ⌜ Tells (paperValue answer) r ⌝ }
+{
+    match answer {
+        ReadValue::Refused(error) => wire::error::outcome(error),
+        ReadValue::Got(read) => {
+            let value = read.value;
+            Outcome {
+                kind: ACCEPTED,
+                number: 0,
+                count: read.next as u64,
+                v0: read.id as u64,
+                v1: value_type(value),
+                v2: bit(read.aggregate),
+                v3: value_word(value, read.bits),
+                v4: value_length(value),
+                v5: 0,
+                v6: 0,
+            }
         }
     }
 }

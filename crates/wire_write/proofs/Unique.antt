@@ -1,27 +1,38 @@
 -- One result for each statement: two results, and two exits, that meet a public function's statement are equal.
 -- Assumes nothing.
-use mathlib.Core.Path.{_≡_, sym, _∙_, ap}
-use mathlib.Core.List.{List, []}
+use mathlib.Core.Path.{_≡_, refl, sym, _∙_, ap}
+use mathlib.Core.List.{List}
 use Prim.Native.Nat.{ℕ}
-use Rattle.words.specs.Answer.{Answer, accepted, afterwards}
+use lib.ListN.{length}
+use Rattle.words.specs.Answer.{Answer}
+use Rattle.words.specs.Paper.{Tells, outcome}
 use Rattle.words.specs.Statement.{OneResult}
-use Rattle.wire_value.specs.Layout.{rowsetBytes}
-use Rattle.wire_value.proofs.Unique.{paper-injective, paper-never-accepted}
-use Rattle.wire_write.specs.Encode.{Encodes, paperEncoded}
+use Rattle.words.proofs.Unique.{equal-to-one, means-one, holds-one}
+use Rattle.wire.specs.Layout.{rowsetBytes}
+use Rattle.wire.proofs.PaperLaws.{refusalBack, refusal-back}
+use Rattle.wire_check.specs.Writing.{writing}
+use Rattle.wire_write.specs.Paper.{paperEncoded}
+use Rattle.wire_write.specs.Statement.{Encodes}
 use Rattle.wire_write.specs.declared.write.Encoded.{Encoded}
 use Rattle.wire_write.specs.declared.write.Encoded.the-variants.{Written, Refused}
 
-told-written : (m n : ℕ) → accepted m [] ≡ accepted n [] → m ≡ n
-told-written m n same = cc
+abbrev encodedOf : Answer → Encoded
+encodedOf a = refusalBack (λ n fields. Written n) Refused a
 
-encoded-one : (r r′ : Encoded) → paperEncoded r ≡ paperEncoded r′ → r ≡ r′
-encoded-one (Written m) (Written n) same = ap Written (told-written m n same)
-encoded-one (Written m) (Refused e) same = absurd (paper-never-accepted e _ _ (sym same))
-encoded-one (Refused e) (Written n) same = absurd (paper-never-accepted e _ _ same)
-encoded-one (Refused e) (Refused f) same = ap Refused (paper-injective e f same)
+encoded-back : (r : Encoded) → encodedOf (paperEncoded r) ≡ r
+encoded-back (Written n) = refl
+encoded-back (Refused refusal) = refusal-back (λ n fields. Written n) Refused refusal
+
+pub encoded-one : (r r′ : Encoded) → paperEncoded r ≡ paperEncoded r′ → r ≡ r′
+encoded-one r r′ same = sym (encoded-back r) ∙ ap encodedOf same ∙ encoded-back r′
 
 -- the answer and the output at exit
 pub encode-rowset-unique : (area rows values before : List ℕ) → OneResult (λ (x : Encoded × List ℕ). Encodes area rows values before (x .0) (x .1))
 encode-rowset-unique area rows values before x x′ p q =
-    let same : paperEncoded (x .0) ≡ paperEncoded (x′ .0) = p .0 ∙ sym (q .0) in
-    λ i. (encoded-one (x .0) (x′ .0) same i, (p .1 ∙ ap (λ (a : Answer). afterwards a (rowsetBytes area rows values) before) same ∙ sym (q .1)) i)
+    let answer : Answer = writing area rows values (length before) in
+    let first : x .0 ≡ x′ .0 = means-one paperEncoded encodedOf encoded-back answer (x .0) (x′ .0) (p .0) (q .0) in
+    let second : x .1 ≡ x′ .1 = holds-one answer (rowsetBytes area rows values) before (x .1) (x′ .1) (p .1) (q .1) in
+    λ i. (first i, second i)
+
+pub outcome-unique : (answer : Encoded) → OneResult (Tells (paperEncoded answer))
+outcome-unique answer = equal-to-one (outcome (paperEncoded answer))

@@ -37,18 +37,18 @@ use denote.Triple.Table.{entered, cited}
 use denote.Triple.Walked.{says, Stays, stay-none, walkOf, goes-none, Walks, ends-at, walked, walk-meets}
 use denote.Exit.{yes}
 use denote.Triple.Clauses.{ensured, lasts}
-use Rattle.wire_reader.specs.Statement.{Needs}
+use Rattle.wire.specs.Need.{Needs}
 use Rattle.wire_reader.specs.declared.Reader.{Reader}
-use Rattle.wire_reader.specs.declared.Needed.{Needed}
+use Rattle.wire.specs.declared.need.Needed.{Needed}
 use Rattle.wire_reader.proofs.HeldLaws.{B, mach, v, Own, Input, opened}
 use Rattle.wire_reader.proofs.Reader as T
 use Rattle.wire_reader.proofs.Reader.Laws as T′
-use Rattle.wire_reader.proofs.Needed as S
-use Rattle.wire_reader.proofs.Needed.Laws as S′
-use Rattle.wire_reader.proofs.need_at as callee
-use Rattle.wire_reader.proofs.need_at.Symbol as callee-def
-use Rattle.wire_reader.proofs.need_at.Symbol.{name as #wire_reader·need-at}
-use Rattle.wire_reader.proofs.need_at.Met as callee-thm
+use Rattle.wire.proofs.need.Needed as S
+use Rattle.wire.proofs.need.Needed.Laws as S′
+use Rattle.wire.proofs.need.need_at as callee
+use Rattle.wire.proofs.need.need_at.Symbol as callee-def
+use Rattle.wire.proofs.need.need_at.Symbol.{name as #wire·need·need-at}
+use Rattle.wire.proofs.need.need_at.Met as callee-thm
 use Rattle.wire_reader.proofs.Reader.need.Key.{name as #wire_reader·Reader·need}
 use Rattle.wire_reader.proofs.Reader.need as shell
 use Rattle.wire_reader.proofs.Reader.need.Statement as stated
@@ -99,7 +99,7 @@ module _ {M : Type 1} (𝓤 : URA M) (H : Heap 𝓤) (A : Atoms 𝓤) (W : Given
       suffices ! _ (ends-at 𝓤 H A shell.ended stayed (shell.clauses 𝓤 H A mem run) W (((κ, tt), (q, tt), tt, (d, (n, tt)), (mach d ∷ [], (vint w64 n ∷ [], tt))), tt) u r (tt, (tt, tt)) (tt, (tt, tt))) $ says ! e $
       move ! (1 ∷ []) $ frame ! $ nothing ! $ owned ! usize (Is usize) (uint-makes 𝓤 H A W w64) n _ (refl, small) $ fjoin ! $ move ! (2 ∷ 0 ∷ []) $ fjoin ! $ frame ! $ done !
 
-  module _ (C : Calls 𝓤 H) (Λ : Loops 𝓤 H) (fm : FmC 𝓤 H (W .laws) C) (known : Triple 𝓤 (C #wire_reader·need-at) (Callee 𝓤 H A mem run)) where
+  module _ (C : Calls 𝓤 H) (Λ : Loops 𝓤 H) (fm : FmC 𝓤 H (W .laws) C) (known : Triple 𝓤 (C #wire·need·need-at) (Callee 𝓤 H A mem run)) where
     walk : Holds (hasTy (T′.mir (named 0)) (mach d)) × WT (mach d) → n < 2 ^ 64 → ent 𝓤 (onEntry 𝓤 H A shell.signature (κ, tt) (q, tt) (d, (n, tt)) (mach d ∷ [], (vint w64 n ∷ [], tt))) (WpFn 𝓤 H C Λ code.function (mach d ∷ vint w64 n ∷ []) Post)
     walk wt small =
         qed W (raw (onEntry 𝓤 H A shell.signature (κ, tt) (q, tt) (d, (n, tt)) (mach d ∷ [], (vint w64 n ∷ [], tt))) ∷ []) ∵ enter ! C Λ code.function (mach d ∷ vint w64 n ∷ []) _ $
@@ -117,13 +117,13 @@ module _ {M : Type 1} (𝓤 : URA M) (H : Heap 𝓤) (A : Atoms 𝓤) (W : Given
         move ! (11 ∷ 12 ∷ []) $ free1 ! $ move ! (9 ∷ 10 ∷ []) $ free1 ! $ move ! (7 ∷ 8 ∷ []) $ free1 ! $ move ! (5 ∷ 6 ∷ []) $ free1 ! $ move ! (3 ∷ 4 ∷ []) $ free1 ! $ free0 ! $ by ! (exits small r u e))))))))))
 
 module _ {M : Type 1} (𝓤 : URA M) (H : Heap 𝓤) (A : Atoms 𝓤) (W : Given 𝓤 H A) (mem : Memory → SProp 𝓤) (run : Routine → Fun 𝓤) where
-  shell-walks : (C : Calls 𝓤 H) (Λ : Loops 𝓤 H) → FmC 𝓤 H (W .laws) C → Triple 𝓤 (C #wire_reader·need-at) (Callee 𝓤 H A mem run)
+  shell-walks : (C : Calls 𝓤 H) (Λ : Loops 𝓤 H) → FmC 𝓤 H (W .laws) C → Triple 𝓤 (C #wire·need·need-at) (Callee 𝓤 H A mem run)
       → Walks 𝓤 H A shell.ended stayed (WpFn 𝓤 H C Λ code.function) (shell.clauses 𝓤 H A mem run)
   shell-walks C Λ fm known = walked 𝓤 H A shell.ended stayed (shell.clauses 𝓤 H A mem run) (WpFn 𝓤 H C Λ code.function) (λ κs. (LL.vals (T.the-type (namedLft 1 0 tt κs)) (T′.the-laws (namedLft 1 0 tt κs)), (uint-vals w64, tt))) (λ κs. (LL.tells (T.the-type (namedLft 1 0 tt κs)) (T′.the-laws (namedLft 1 0 tt κs)), (uint-tells w64, tt)))
       (λ κs qs bounds a g are. via 𝓤 _ (fst∗ 𝓤 _ (emp 𝓤)) (walk 𝓤 H A W mem run (κs .0) (qs .0) (a .0) (a .1 .0) C Λ fm known (LL.lawful (T.the-type (namedLft 1 0 tt κs)) (T′.the-laws (namedLft 1 0 tt κs)) 𝓤 H A W .typed (a .0) _ (are .0) .0) (are .1 .0 .1)))
 
 shell-meets : {M : Type 1} (𝓤 : URA M) (H : Heap 𝓤) (A : Atoms 𝓤) (W : Given 𝓤 H A) (mem : Memory → SProp 𝓤) (run : Routine → Fun 𝓤) (𝓣 : Tables 𝓤 H)
-    → Triple 𝓤 (𝓣 .C #wire_reader·need-at) (Callee 𝓤 H A mem run)
+    → Triple 𝓤 (𝓣 .C #wire·need·need-at) (Callee 𝓤 H A mem run)
     → Meets 𝓤 H A shell.signature (WpFn 𝓤 H (𝓣 .C) (𝓣 .Λ) code.function) (shell.spec 𝓤 H A mem run)
 shell-meets 𝓤 H A W mem run 𝓣 known-callee = walk-meets 𝓤 H A shell.ended stayed W (goes-none 𝓤 H A W 1 B yes (λ κs x f. refl), (goes-none 𝓤 H A W 1 (λ _. usize) yes (λ κs x f. refl), tt)) (shell.clauses 𝓤 H A mem run) (WpFn 𝓤 H (𝓣 .C) (𝓣 .Λ) code.function) (WpFn-mono 𝓤 H (W .laws) 𝓣 code.function)
     (shell-walks 𝓤 H A W mem run (𝓣 .C) (𝓣 .Λ) (fmOf 𝓤 H (W .laws) 𝓣) known-callee)
@@ -134,4 +134,4 @@ need-spec 𝓤 H 𝓜 𝓖 𝓡 =
     entered 𝓤 H (tripleOf 𝓤 H (𝓖 .A) shell.signature (shell.spec 𝓤 H (𝓖 .A) (𝓜 .mem) (𝓡 .run)))
     (tables 𝓤 H 𝓜 𝓡 code.env .C) (tables 𝓤 H 𝓜 𝓡 code.env .Λ) #wire_reader·Reader·need code.function (code.unfolded 𝓤 H 𝓜 𝓡)
     (shell-meets 𝓤 H (𝓖 .A) (givenOf 𝓤 H 𝓜 𝓖) (𝓜 .mem) (𝓡 .run) (tablesOf 𝓤 H 𝓜 (tables 𝓤 H 𝓜 𝓡 code.env))
-    (cited 𝓤 H (Callee 𝓤 H (𝓖 .A) (𝓜 .mem) (𝓡 .run)) 𝓜 𝓡 code.env #wire_reader·need-at callee-def.routine code.calls-wire-reader·need-at (callee-thm.met 𝓤 H 𝓜 𝓖 𝓡)))
+    (cited 𝓤 H (Callee 𝓤 H (𝓖 .A) (𝓜 .mem) (𝓡 .run)) 𝓜 𝓡 code.env #wire·need·need-at callee-def.routine code.calls-wire·need·need-at (callee-thm.met 𝓤 H 𝓜 𝓖 𝓡)))

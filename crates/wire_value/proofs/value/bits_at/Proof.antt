@@ -1,16 +1,26 @@
--- `value::bits_at` meets its contract: no scalar, a word as it is, or a boolean.
--- Assumes nothing.
+-- `value::bits_at` meets its contract: no scalar, a word as it is, or a boolean. Assumes nothing.
 use native.Mathlib.Omega.{arith}
-use Rattle.wire_value.proofs.ValueLaws.{bits-none-low, bits-none-high, bits-word, bits-false, bits-true}
+use Rattle.wire_value.proofs.ValueLaws.{bits-none, bits-word, bits-boolean}
+use Rattle.wire.proofs.KindLaws.{kind-null, kind-word, kind-boolean, kind-blob, kind-unknown}
+use Rattle.wire.proofs.TypeLaws.{scalar-low, scalar-high}
 use borrow.Author.Needs.{needs}
 use Rattle.wire_value.proofs.value.bits_at.Statement.{statement}
 use Rattle.wire_value.proofs.value.bits_at.Tie as tie
 
-returns : tie.Need-returns
-returns c = bits-none-low (c .before .before .args .input .now) (c .before .before .args .at) (c .before .before .args .kind) (c .before .before .pre .1) (c .if1 .taken)
+kind-of-requires : tie.Need-kind-of-requires
+kind-of-requires c κs = search needs
 
-returns-2 : tie.Need-returns-2
-returns-2 c = bits-none-high (c .before .before .before .args .input .now) (c .before .before .before .args .at) (c .before .before .before .args .kind) (c .before .before .before .pre .1) (c .if2 .taken)
+enum-told : tie.Need-enum-told
+enum-told c = search needs
+
+enum-told-2 : tie.Need-enum-told-2
+enum-told-2 c = search needs
+
+enum-told-3 : tie.Need-enum-told-3
+enum-told-3 c = search needs
+
+enum-told-4 : tie.Need-enum-told-4
+enum-told-4 c = search needs
 
 add-read-u64 : tie.Need-add-read-u64
 add-read-u64 c = search needs
@@ -18,16 +28,64 @@ add-read-u64 c = search needs
 read-u64-requires : tie.Need-read-u64-requires
 read-u64-requires c κs = search needs
 
+enum-told-5 : tie.Need-enum-told-5
+enum-told-5 c = search needs
+
+add-read-u64-2 : tie.Need-add-read-u64-2
+add-read-u64-2 c = search needs
+
+read-u64-requires-2 : tie.Need-read-u64-requires-2
+read-u64-requires-2 c κs = search needs
+
+flag-requires : tie.Need-flag-requires
+flag-requires c κs = search needs
+
+returns : tie.Need-returns
+returns c =
+    let start = c .before .before .before .before in
+    let null = kind-null (start .args .kind) _ (c .before .before .kind-of .ensures) (c .enum-told .given .1) in
+    bits-none (start .args .input .now) (start .args .at) (start .args .kind) (start .pre .1) (scalar-low (start .args .kind) (omega (arith, null)))
+
+returns-2 : tie.Need-returns-2
+returns-2 c =
+    let start = c .before .before .before .before in
+    bits-none (start .args .input .now) (start .args .at) (start .args .kind) (start .pre .1) (kind-unknown (start .args .kind) _ (c .before .before .kind-of .ensures) (c .enum-told2 .given .1) .1)
+
 returns-3 : tie.Need-returns-3
-returns-3 c = bits-word (c .before .before .before .before .before .args .input .now) (c .before .before .before .before .before .args .at) (c .before .before .before .before .before .args .kind) (c .before .read-u64 .result) (c .before .before .before .before .before .pre .1) (c .before .read-u64 .ensures) (omega arith) (c .if3 .taken)
+returns-3 c =
+    let start = c .before .before .before .before in
+    let blob = kind-blob (start .args .kind) _ (c .before .before .kind-of .ensures) (c .enum-told3 .given .1) in
+    bits-none (start .args .input .now) (start .args .at) (start .args .kind) (start .pre .1) (scalar-high (start .args .kind) (omega (arith, blob .0)))
 
 returns-4 : tie.Need-returns-4
-returns-4 c = bits-false (c .before .before .before .before .before .before .args .input .now) (c .before .before .before .before .before .before .args .at) (c .before .before .before .before .before .before .args .kind) (c .before .before .read-u64 .result) (c .before .before .before .before .before .before .pre .1) (c .before .before .read-u64 .ensures) (omega arith) (omega arith) (c .if4 .taken)
+returns-4 c =
+    let start = c .before .before .before .before .before in
+    let word = kind-word (start .args .kind) _ (c .before .before .before .kind-of .ensures) (c .before .enum-told4 .given .1) in
+    bits-word (start .args .input .now) (start .args .at) (start .args .kind) (start .pre .1) (word .0) (word .1) _ (c .read-u64 .ensures)
 
 returns-5 : tie.Need-returns-5
-returns-5 c = bits-true (c .before .before .before .before .before .before .args .input .now) (c .before .before .before .before .before .before .args .at) (c .before .before .before .before .before .before .args .kind) (c .before .before .read-u64 .result) (c .before .before .before .before .before .before .pre .1) (c .before .before .read-u64 .ensures) (omega arith) (omega arith) (c .if4 .left)
+returns-5 c =
+    let start = c .before .before .before .before .before .before in
+    let boolean = kind-boolean (start .args .kind) _ (c .before .before .before .before .kind-of .ensures) (c .before .before .enum-told5 .given .1) in
+    bits-boolean (start .args .input .now) (start .args .at) (start .args .kind) (start .pre .1) boolean _ _ (c .before .read-u642 .ensures) (c .flag .ensures)
 
 pub bits-at-spec : {M : Type 1} → statement M
 bits-at-spec =
     tie.close
-    (tie.spec returns returns-2 add-read-u64 read-u64-requires returns-3 returns-4 returns-5)
+    (tie.spec
+    kind-of-requires
+    enum-told
+    enum-told-2
+    enum-told-3
+    enum-told-4
+    add-read-u64
+    read-u64-requires
+    enum-told-5
+    add-read-u64-2
+    read-u64-requires-2
+    flag-requires
+    returns
+    returns-2
+    returns-3
+    returns-4
+    returns-5)

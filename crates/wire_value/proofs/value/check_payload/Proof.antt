@@ -1,97 +1,100 @@
--- `value::check_payload` meets its contract: each way out is one of the laws of a value's checks.
--- Assumes nothing.
+-- `value::check_payload` meets its contract: each kind by its payload. Assumes nothing.
+use Rattle.wire_value.proofs.OrderLaws.{order-unknown, looks-null, looks-scalar, blob-long, looks-blob}
 use native.Mathlib.Omega.{arith}
-use Rattle.wire_value.proofs.TypeLaws.{unknown-low, unknown-middle, unknown-high}
-use Rattle.wire_value.proofs.OrderLaws.{order-unknown, null-passes, scalar-lacks, scalar-passes, blob-long, blob-lacks, blob-passes}
+use Rattle.wire.proofs.KindLaws.{kind-null, kind-word, kind-boolean, kind-blob, kind-unknown}
 use borrow.Author.Needs.{needs}
 use Rattle.wire_value.proofs.value.check_payload.Statement.{statement}
 use Rattle.wire_value.proofs.value.check_payload.Tie as tie
 
-add-left : tie.Need-add-left
-add-left c = search needs
+cast-kind-of : tie.Need-cast-kind-of
+cast-kind-of c = search needs
 
-sub-left : tie.Need-sub-left
-sub-left c = search needs
+kind-of-requires : tie.Need-kind-of-requires
+kind-of-requires c κs = search needs
 
-add-t11 : tie.Need-add-t11
-add-t11 c = search needs
+enum-told : tie.Need-enum-told
+enum-told c = search needs
+
+enum-told-2 : tie.Need-enum-told-2
+enum-told-2 c = search needs
+
+check-bytes-requires : tie.Need-check-bytes-requires
+check-bytes-requires c κs =
+    let start = c .before .before .before .before in
+    (start .pre .0, start .pre .1, looks-null (start .args .input .now) (start .args .at) (start .args .header) (start .pre .1) (start .pre .0) (kind-null (start .args .header .kind) _ (c .before .before .kind-of .ensures) (c .enum-told2 .given .1)))
+
+enum-told-3 : tie.Need-enum-told-3
+enum-told-3 c = search needs
+
+check-bytes-requires-2 : tie.Need-check-bytes-requires-2
+check-bytes-requires-2 c κs =
+    let start = c .before .before .before .before in
+    let word = kind-word (start .args .header .kind) _ (c .before .before .kind-of .ensures) (c .enum-told3 .given .1) in
+    (start .pre .0, start .pre .1, looks-scalar (start .args .input .now) (start .args .at) (start .args .header) (start .pre .1) (start .pre .0) (word .0) (omega (arith, word .1)))
+
+enum-told-4 : tie.Need-enum-told-4
+enum-told-4 c = search needs
+
+check-bytes-requires-3 : tie.Need-check-bytes-requires-3
+check-bytes-requires-3 c κs =
+    let start = c .before .before .before .before in
+    let boolean = kind-boolean (start .args .header .kind) _ (c .before .before .kind-of .ensures) (c .enum-told4 .given .1) in
+    (start .pre .0, start .pre .1, looks-scalar (start .args .input .now) (start .args .at) (start .args .header) (start .pre .1) (start .pre .0) (omega (arith, boolean)) (omega (arith, boolean)))
+
+enum-told-5 : tie.Need-enum-told-5
+enum-told-5 c = search needs
 
 returns : tie.Need-returns
-returns c = null-passes (c .before .before .args .input .now) (c .before .before .args .at) (c .before .before .args .header) (c .before .before .pre .1) (c .before .before .pre .0) (c .if1 .taken)
-
-returns-2 : tie.Need-returns-2
-returns-2 c = order-unknown (c .before .before .before .args .input .now) (c .before .before .before .args .at) (c .before .before .before .args .header) (c .before .before .before .pre .1) (c .before .before .before .pre .0) (unknown-low (c .before .before .before .args .header .kind) (omega arith))
-
-add-t14 : tie.Need-add-t14
-add-t14 c = search needs
-
-sub-t15 : tie.Need-sub-t15
-sub-t15 c = search needs
-
-returns-3 : tie.Need-returns-3
-returns-3 c = scalar-lacks (c .before .before .before .before .before .args .input .now) (c .before .before .before .before .before .args .at) (c .before .before .before .before .before .args .header) (c .before .before .before .before .before .pre .1) (c .before .before .before .before .before .pre .0) (omega arith) (c .before .if3 .taken) (c .if4 .taken)
-
-add-t17 : tie.Need-add-t17
-add-t17 c = search needs
-
-add-t18 : tie.Need-add-t18
-add-t18 c = search needs
-
-returns-4 : tie.Need-returns-4
-returns-4 c = scalar-passes (c .before .before .before .before .before .args .input .now) (c .before .before .before .before .before .args .at) (c .before .before .before .before .before .args .header) (c .before .before .before .before .before .pre .1) (c .before .before .before .before .before .pre .0) (omega arith) (c .before .if3 .taken) (c .if4 .left)
-
-returns-5 : tie.Need-returns-5
-returns-5 c = order-unknown (c .before .before .before .before .before .args .input .now) (c .before .before .before .before .before .args .at) (c .before .before .before .before .before .args .header) (c .before .before .before .before .before .pre .1) (c .before .before .before .before .before .pre .0) (unknown-middle (c .before .before .before .before .before .args .header .kind) (omega arith) (c .if5 .taken))
-
-returns-6 : tie.Need-returns-6
-returns-6 c = order-unknown (c .before .before .before .before .before .before .args .input .now) (c .before .before .before .before .before .before .args .at) (c .before .before .before .before .before .before .args .header) (c .before .before .before .before .before .before .pre .1) (c .before .before .before .before .before .before .pre .0) (unknown-high (c .before .before .before .before .before .before .args .header .kind) (c .if6 .taken))
-
-returns-7 : tie.Need-returns-7
-returns-7 c = blob-long (c .before .before .before .before .before .before .before .args .input .now) (c .before .before .before .before .before .before .before .args .at) (c .before .before .before .before .before .before .before .args .header) (c .before .before .before .before .before .before .before .pre .1) (c .before .before .before .before .before .before .before .pre .0) (omega arith) (omega arith) (c .if7 .taken)
+returns c =
+    let start = c .before .before .before .before .before in
+    let blob = kind-blob (start .args .header .kind) _ (c .before .before .before .kind-of .ensures) (c .before .enum-told5 .given .1) in
+    blob-long (start .args .input .now) (start .args .at) (start .args .header) (start .pre .1) (start .pre .0) (blob .0) (blob .1) (c .if1 .taken)
 
 padded-requires : tie.Need-padded-requires
 padded-requires c κs = search needs
 
-add-t22 : tie.Need-add-t22
-add-t22 c = search needs
+check-bytes-requires-4 : tie.Need-check-bytes-requires-4
+check-bytes-requires-4 c κs =
+    let start = c .before .before .before .before .before .before in
+    let blob = kind-blob (start .args .header .kind) _ (c .before .before .before .before .kind-of .ensures) (c .before .before .enum-told5 .given .1) in
+    (start .pre .0, start .pre .1, looks-blob (start .args .input .now) (start .args .at) (start .args .header) (start .pre .1) (start .pre .0) (blob .0) (blob .1) (c .before .if1 .left) _ (c .padded .ensures))
 
-sub-t23 : tie.Need-sub-t23
-sub-t23 c = search needs
+returns-2 : tie.Need-returns-2
+returns-2 c =
+    let start = c .before .before .before .before in
+    order-unknown (start .args .input .now) (start .args .at) (start .args .header) (start .pre .1) (start .pre .0) (kind-unknown (start .args .header .kind) _ (c .before .before .kind-of .ensures) (c .enum-told .given .1) .0)
 
-returns-8 : tie.Need-returns-8
-returns-8 c = blob-lacks (c .before .before .before .before .before .before .before .before .before .args .input .now) (c .before .before .before .before .before .before .before .before .before .args .at) (c .before .before .before .before .before .before .before .before .before .args .header) (c .before .before .before .before .before .before .before .before .before .pre .1) (c .before .before .before .before .before .before .before .before .before .pre .0) (omega arith) (omega arith) (c .before .before .if7 .left) _ (c .before .padded .ensures) (c .if8 .taken)
+returns-3 : tie.Need-returns-3
+returns-3 c = search needs
 
-add-t8 : tie.Need-add-t8
-add-t8 c = search needs
+returns-4 : tie.Need-returns-4
+returns-4 c = search needs
 
-add-t9 : tie.Need-add-t9
-add-t9 c = search needs
+returns-5 : tie.Need-returns-5
+returns-5 c = search needs
 
-returns-9 : tie.Need-returns-9
-returns-9 c = blob-passes (c .before .before .before .before .before .before .before .before .before .args .input .now) (c .before .before .before .before .before .before .before .before .before .args .at) (c .before .before .before .before .before .before .before .before .before .args .header) (c .before .before .before .before .before .before .before .before .before .pre .1) (c .before .before .before .before .before .before .before .before .before .pre .0) (omega arith) (omega arith) (c .before .before .if7 .left) _ (c .before .padded .ensures) (c .if8 .left)
+returns-6 : tie.Need-returns-6
+returns-6 c = search needs
 
 pub check-payload-spec : {M : Type 1} → statement M
 check-payload-spec =
     tie.close
     (tie.spec
-    add-left
-    sub-left
-    add-t11
+    cast-kind-of
+    kind-of-requires
+    enum-told
+    enum-told-2
+    check-bytes-requires
+    enum-told-3
+    check-bytes-requires-2
+    enum-told-4
+    check-bytes-requires-3
+    enum-told-5
     returns
+    padded-requires
+    check-bytes-requires-4
     returns-2
-    add-t14
-    sub-t15
     returns-3
-    add-t17
-    add-t18
     returns-4
     returns-5
-    returns-6
-    returns-7
-    padded-requires
-    add-t22
-    sub-t23
-    returns-8
-    add-t8
-    add-t9
-    returns-9)
+    returns-6)

@@ -18,11 +18,14 @@ enum-known-header c = search needs
 bits-at-requires : tie.Need-bits-at-requires
 bits-at-requires c κs = (passed-room (c .before .before .before .before .before .args .input .now) (c .before .before .before .before .before .args .at) _ _ _ (c .before .before .before .check-value .ensures .0) (c .before .before .before .check-value .ensures .1) (c .before .header .given .1), passed-kind (c .before .before .before .before .before .args .input .now) (c .before .before .before .before .before .args .at) _ _ _ (c .before .before .before .check-value .ensures .0) (c .before .header .given .1))
 
+cast-value-of : tie.Need-cast-value-of
+cast-value-of c = search needs
+
 add-value-of : tie.Need-add-value-of
 add-value-of c = omega (arith, passed-room (c .before .before .before .before .before .before .before .args .input .now) (c .before .before .before .before .before .before .before .args .at) _ _ _ (c .before .before .before .before .before .check-value .ensures .0) (c .before .before .before .before .before .check-value .ensures .1) (c .before .before .before .header .given .1))
 
-cast-value-of : tie.Need-cast-value-of
-cast-value-of c = search needs
+cast-value-of-2 : tie.Need-cast-value-of-2
+cast-value-of-2 c = search needs
 
 value-of-requires : tie.Need-value-of-requires
 value-of-requires c κs = search needs
@@ -41,8 +44,9 @@ read-value-spec =
     enum-known-refusal
     enum-known-header
     bits-at-requires
-    add-value-of
     cast-value-of
+    add-value-of
+    cast-value-of-2
     value-of-requires
     returns
     returns-2)

@@ -1,2 +1,0 @@
--- What the writer accepts is good.
-pub mod Accepts

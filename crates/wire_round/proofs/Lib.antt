@@ -1,4 +1,0 @@
--- What is written is read back.
-pub mod ValueRound
-pub mod RowsetRound
-pub mod PlainRound

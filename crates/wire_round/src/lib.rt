@@ -1,1 +1,0 @@
-// Theorems alone: what a rowset's bytes are is read back as the tables that they were made of.

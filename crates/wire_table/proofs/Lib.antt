@@ -1,5 +1,0 @@
--- Laws of the tables' checks and of the walks, one result for each statement, and examples.
-pub mod TableLaws
-pub mod WalkLaws
-pub mod Unique
-pub mod Examples
