@@ -11,7 +11,7 @@ use Rattle.words.specs.Buffer.{over}
 use Rattle.words.specs.Decide.{_=?_}
 use Rattle.words.specs.Text.{text}
 use Rattle.words.specs.declared.outcome.Room.the-variants.{Output}
-use Rattle.words.proofs.AnswerLaws.{acceptedCount, acceptedFields}
+use Rattle.words.proofs.AcceptLaws.{acceptedCount, acceptedFields}
 use Rattle.words.proofs.LentLaws.{tail, tail-is-drop}
 use Rattle.packet.specs.declared.Packet.{Packet}
 use Rattle.packet.specs.declared.PacketError.{PacketError}

@@ -4,5 +4,6 @@ pub mod OrderLaws
 pub mod SizeLaws
 pub mod PartLaws
 pub mod EntryLaws
+pub mod Lines
 pub mod BodyLaws
 pub mod Unique

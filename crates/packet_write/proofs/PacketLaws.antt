@@ -23,7 +23,8 @@ use Rattle.packet.specs.declared.PacketError.{PacketError}
 use Rattle.packet.specs.Wire.{sealed, fixedFields, body, packetBytes, packetSize, partsOf}
 use Rattle.packet_check.specs.Checks.{checks, sizing}
 use Rattle.packet_check.proofs.WireLaws.{length-parts}
-use Rattle.packet_check.proofs.CheckLaws.{decided, checks-pass, sized}
+use Rattle.words.proofs.AcceptLaws.{decided}
+use Rattle.packet_check.proofs.CheckLaws.{checks-pass, sized}
 use Rattle.words.specs.Filling.{Filling}
 use Rattle.packet_write.specs.Writing.{roomLines, writing}
 use Rattle.packet_write.proofs.FillingLaws.{opens}

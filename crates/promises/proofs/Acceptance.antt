@@ -16,7 +16,7 @@ use Rattle.packet.specs.Layout.{packetSignature, nullSize, largestPart, mostPar
 use Rattle.packet_read.specs.Reading.{Limits, fails, tooLarge, partFails, reading}
 use Rattle.packet.specs.Layout.{isNull}
 use Rattle.promises.specs.Acceptance.{Guards, FixedHeader, VariableHeader, Acceptable, consumed, Acceptance}
-use Rattle.promises.proofs.Lines.{Before, Behind, rest, reading-is, lines-before, lines-behind, pass-bare, pass-before, pass-behind}
+use Rattle.packet_read.proofs.Lines.{Before, Behind, rest, reading-is, lines-before, lines-behind, pass-bare, pass-before, pass-behind}
 
 -- a word guards its stretch exactly where the stretch does not fail it
 pub guards : (stored : ℕ) (bytes : List ℕ) → fails stored bytes ≡ false → Guards stored bytes

@@ -25,7 +25,7 @@ use Rattle.packet_read.proofs.SizeLaws.{taken-below}
 use Rattle.promises.specs.Damage.{Stretch, fixedHeader, variableHeader, partAt, from, long, Names, Confined, ConfinedIsNamed, DamageIsNamed}
 use Rattle.promises.proofs.Agreement.{same-word, same-stretch, other-checksum}
 use Rattle.promises.proofs.Acceptance.{guards, present, none-of, not-null, passed-before, passed-behind}
-use Rattle.promises.proofs.Lines.{Before, Behind, front, rest, reading-is, pass-before}
+use Rattle.packet_read.proofs.Lines.{Before, Behind, front, rest, reading-is, pass-before}
 
 -- a word that guarded one stretch fails another of another checksum
 broken : (word : ℕ) (a b : List ℕ) → (word ≡ 0 → ⊥) → fails word a ≡ false → (checksum a ≡ checksum b → ⊥) → fails word b ≡ true

@@ -1,6 +1,5 @@
 -- The proofs of what is guaranteed.
 pub mod Agreement
-pub mod Lines
 pub mod Acceptance
 pub mod Checksum
 pub mod Damage

@@ -20,7 +20,7 @@ use Rattle.packet.specs.Wire.{packetSize}
 use Rattle.promises.specs.RoundTrip.{Message, wire, wireSize, Valid, Held, StrictPrefix}
 use Rattle.promises.proofs.Acceptance.{before-of, behind-of}
 use Rattle.packet_write.proofs.PieceLaws.{length-packet}
-use Rattle.promises.proofs.Lines.{Before, Behind, rest, reading-is, pass-before}
+use Rattle.packet_read.proofs.Lines.{Before, Behind, rest, reading-is, pass-before}
 use Rattle.promises.proofs.RoundTrip.{is-count, is-type, fixed-ok, variable-ok, is-whole}
 
 -- a stretch that a front still holds

@@ -9,7 +9,7 @@ use Rattle.words.specs.Decide.{_⇒_, decide, _=?_}
 use Rattle.words.specs.Paper.{outcome}
 use Rattle.words.specs.declared.outcome.Outcome.{Outcome}
 use Rattle.words.proofs.AnswerLaws.{isRefused, not-taken-keeps}
-use Rattle.words.proofs.RoomLaws.{noRoomOf, no-room-back}
+use Rattle.words.proofs.PaperLaws.{noRoomOf, no-room-back}
 use Rattle.wire.specs.Paper.{paper}
 use Rattle.wire.specs.declared.error.WireError.{WireError}
 use Rattle.wire.specs.declared.error.WireError.the-variants.{Truncated, TooManyRows, TooManyValues, ValueTooLong, RowsetTooLarge, UnknownValueType, TrailingBytes, NoRoom, BadTable}

@@ -4,6 +4,7 @@ pub mod BufferLaws
 pub mod DecideLaws
 pub mod Unique
 pub mod AnswerLaws
+pub mod AcceptLaws
 pub mod PaperLaws
 pub mod TextLaws
 pub mod LentLaws

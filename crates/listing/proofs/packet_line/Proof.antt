@@ -20,6 +20,9 @@ cast-flags c = search needs
 type-number-requires : tie.Need-type-number-requires
 type-number-requires c κs = search needs
 
+cast-put-field : tie.Need-cast-put-field
+cast-put-field c = search needs
+
 put-field-requires-2 : tie.Need-put-field-requires-2
 put-field-requires-2 c κs = search needs
 
@@ -29,8 +32,8 @@ put-field-requires-3 c κs = search needs
 put-id-requires : tie.Need-put-id-requires
 put-id-requires c κs = search needs
 
-cast-put-field : tie.Need-cast-put-field
-cast-put-field c = search needs
+cast-put-field-2 : tie.Need-cast-put-field-2
+cast-put-field-2 c = search needs
 
 put-field-requires-4 : tie.Need-put-field-requires-4
 put-field-requires-4 c κs = omega (arith, c .before .before .before .before .before .before .before .before .before .before .before .before .before .before .before .before .before .before .before .before .before .before .before .before .before .before .before .pre, c .before .before .before .before .before .before .before .before .before .before .before .before .before .before .before .before .before .before .before .before .before .before .before .put-bytes .ensures .ends, c .before .before .before .before .before .before .before .before .before .before .before .before .before .before .before .before .before .before .before .put-field .ensures .1, c .before .before .before .before .before .before .before .before .before .before .before .before .before .put-field2 .ensures .1, c .before .before .before .before .before .before .before .before .before .put-field3 .ensures .1, c .before .before .before .before .put-id .ensures .1, c .before .before .before .before .before .before .before .before .before .before .before .before .before .before .before .before .before .before .before .before .before .before .before .put-bytes .kept .0, c .before .before .before .before .before .before .before .before .before .before .before .before .before .before .before .before .before .before .before .put-field .kept .0, c .before .before .before .before .before .before .before .before .before .before .before .before .before .put-field2 .kept .0, c .before .before .before .before .before .before .before .before .before .put-field3 .kept .0, c .before .before .before .before .put-id .kept .0)
@@ -64,10 +67,11 @@ packet-line-spec =
     put-field-requires
     cast-flags
     type-number-requires
+    cast-put-field
     put-field-requires-2
     put-field-requires-3
     put-id-requires
-    cast-put-field
+    cast-put-field-2
     put-field-requires-4
     same-length
     returns)

@@ -1,5 +1,7 @@
 -- `step` meets its contract, one return a line: the laws put the reader's answer and the lines together. Assumes nothing.
+use mathlib.Core.Path.{ap}
 use native.Mathlib.Omega.{arith}
+use Rattle.words.specs.declared.outcome.Outcome.{Outcome}
 use Rattle.listing.proofs.WalkLaws.{ends-here, unfinished, refusal, parts-held, goes-on, packet-listed}
 use borrow.Author.Needs.{needs}
 use Rattle.listing.proofs.step.Statement.{statement}
@@ -36,8 +38,8 @@ more-line-requires c κs = search needs
 enum-known-error : tie.Need-enum-known-error
 enum-known-error c = search needs
 
-number-of-requires : tie.Need-number-of-requires
-number-of-requires c κs = search needs
+refused-requires : tie.Need-refused-requires
+refused-requires c κs = search needs
 
 refused-line-requires : tie.Need-refused-line-requires
 refused-line-requires c κs = search needs
@@ -87,7 +89,7 @@ returns-3 c = let start = c .before .before .before .before .before .before .bef
     let some = c .before .before .before .before .before .before .before .before .before .before .before .before .before .if1 .left in
     let found = c .before .before .before .before .before .before .error .given in
     let read = rw (found .1) at (c .before .before .before .before .before .before .before .before .before .before .decode-with .ensures) in
-    refusal (a .input .now) (a .offset) (a .at) (a .out .now) some (a .parts .now) _ (start .pre .4) (found .0 .0) read (c .before .before .before .number-of .ensures) (c .before .before .refused-line .ensures)
+    refusal (a .input .now) (a .offset) (a .at) (a .out .now) some (a .parts .now) _ (start .pre .4) (found .0 .0) read (ap (λ (o : Outcome). o .number) (c .before .before .before .before .refused .ensures)) (c .before .before .refused-line .ensures)
 
 same-length-6 : tie.Need-same-length-6
 same-length-6 c = search needs
@@ -118,7 +120,7 @@ step-spec =
     enum-told
     more-line-requires
     enum-known-error
-    number-of-requires
+    refused-requires
     refused-line-requires
     enum-known-packet
     packet-lines-requires

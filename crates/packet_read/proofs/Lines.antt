@@ -8,10 +8,10 @@ use Rattle.words.specs.Answer.{Answer, accepted, refuse}
 use Rattle.words.specs.Decide.{_≠?_, _<?_, _⇒_}
 use Rattle.words.specs.Note.{answers}
 use Rattle.packet.specs.Layout.{packetSignature, mostParts, lastType, fixedHeaderSize, hasVariableHeader, headers, signature, type, count, fixedSum, fixedFields, fields, variable, variableSum, whole}
 use Rattle.packet_read.specs.Reading.{Limits, fails, firstTooLarge, firstFailing, fixedLines, countLines, variableLines, sizeLines, partLines, roomLines, reading}
 use Rattle.packet_read.specs.Stages.{through, behind}
 use Rattle.packet_read.proofs.OrderLaws.{order-split}
-use Rattle.packet_check.proofs.CheckLaws.{isAccepted, silent}
+use Rattle.words.proofs.AcceptLaws.{isAccepted, silent}
 
 -- the tests of the fixed header and of the count
 pub record Before (s : List ℕ) (n : ℕ) (limits : Limits) : Type 0 where
