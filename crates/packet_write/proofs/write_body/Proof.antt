@@ -15,27 +15,36 @@ use Rattle.packet_write.proofs.write_body.Tie as tie
 abbrev now-sized : tie.After-slice-known2 → List ℕ
 now-sized c = c .before .before .write-sizes .last .1 .0
 
-at-sized : (c : tie.After-slice-known2) → Sized (c .before .before .before .before .before .before .before .args .area .now) (c .before .before .before .before .before .before .before .args .parts .now) (c .before .before .before .before .before .before .before .args .out .now) (now-sized c)
+abbrev start-sized : tie.After-slice-known2 → tie.Start
+start-sized c = c .before .before .before .before .before .before .before
+
+at-sized : (c : tie.After-slice-known2) → Sized (start-sized c .args .area .now) (start-sized c .args .parts .now) (start-sized c .args .out .now) (now-sized c)
 at-sized c =
-    let start = c .before .before .before .before .before .before .before in
+    let start = start-sized c in
     sizes-written (start .args .area .now) (start .args .parts .now) (start .args .out .now) (start .pre .1 .0) (start .pre .1 .1) (c .before .before .write-sizes .ensures)
+
+abbrev start-summed : tie.After-slice-known3 → tie.Start
+start-summed c = c .before .before .before .before .before .before .before .before .before .before .before
 
 abbrev now-summed : tie.After-slice-known3 → List ℕ
 now-summed c =
-    let at : ℕ = 4 * room (c .before .before .before .before .before .before .before .before .before .before .before .args .parts .now) in
+    let at : ℕ = 4 * room (start-summed c .args .parts .now) in
     putMid at (length (now-sized (c .before .before .before .before)) - at) (now-sized (c .before .before .before .before)) (c .before .before .write-sums .last .1 .1 .1 .0)
 
-at-summed : (c : tie.After-slice-known3) → Summed (c .before .before .before .before .before .before .before .before .before .before .before .args .area .now) (c .before .before .before .before .before .before .before .before .before .before .before .args .parts .now) (c .before .before .before .before .before .before .before .before .before .before .before .args .out .now) (now-summed c)
+at-summed : (c : tie.After-slice-known3) → Summed (start-summed c .args .area .now) (start-summed c .args .parts .now) (start-summed c .args .out .now) (now-summed c)
 at-summed c =
-    let start = c .before .before .before .before .before .before .before .before .before .before .before .args in
+    let start = start-summed c .args in
     sums-written (start .area .now) (start .parts .now) (start .out .now) (at-sized (c .before .before .before .before)) (c .before .before .write-sums .ensures)
 
 abbrev now-guarded : tie.After-slice-known4 → List ℕ
 now-guarded c = c .before .before .seal .last .1 .1 .0
 
-at-guarded : (c : tie.After-slice-known4) → Guarded (c .before .before .before .before .before .before .before .before .before .before .before .before .before .before .before .args .area .now) (c .before .before .before .before .before .before .before .before .before .before .before .before .before .before .before .args .parts .now) (c .before .before .before .before .before .before .before .before .before .before .before .before .before .before .before .args .out .now) (now-guarded c)
+abbrev start-guarded : tie.After-slice-known4 → tie.Start
+start-guarded c = c .before .before .before .before .before .before .before .before .before .before .before .before .before .before .before
+
+at-guarded : (c : tie.After-slice-known4) → Guarded (start-guarded c .args .area .now) (start-guarded c .args .parts .now) (start-guarded c .args .out .now) (now-guarded c)
 at-guarded c =
-    let start = c .before .before .before .before .before .before .before .before .before .before .before .before .before .before .before .args in
+    let start = start-guarded c .args in
     guard-written (start .area .now) (start .parts .now) (start .out .now) (at-summed (c .before .before .before .before)) (c .before .before .seal .ensures)
 
 write-sizes-requires : tie.Need-write-sizes-requires

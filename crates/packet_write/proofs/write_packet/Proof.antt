@@ -26,9 +26,15 @@ has-variable-header-requires : tie.Need-has-variable-header-requires
 has-variable-header-requires c κs = search needs
 
 -- the fixed header is written, and a variable header follows
-at-body : (c : tie.After-table3) → Filling (bytesFor (c .before .before .before .before .before .before .before .before .before .before .before .before .args .packet-type) (c .before .before .before .before .before .before .before .before .before .before .before .before .args .flags) (c .before .before .before .before .before .before .before .before .before .before .before .before .args .id) (c .before .before .before .before .before .before .before .before .before .before .before .before .args .area .now) (c .before .before .before .before .before .before .before .before .before .before .before .before .args .parts .now)) (body (partsOf (c .before .before .before .before .before .before .before .before .before .before .before .before .args .area .now) (c .before .before .before .before .before .before .before .before .before .before .before .before .args .parts .now))) (c .before .before .before .before .before .before .before .before .before .before .before .before .args .out .now) (c .before .before .before .before .before .write-fixed .last .1 .1 .1 .1 .1 .0) 36
+abbrev start-body : tie.After-table3 → tie.Start
+start-body c = c .before .before .before .before .before .before .before .before .before .before .before .before
+
+at-body : (c : tie.After-table3) → Filling
+    (bytesFor (start-body c .args .packet-type) (start-body c .args .flags) (start-body c .args .id) (start-body c .args .area .now) (start-body c .args .parts .now))
+    (body (partsOf (start-body c .args .area .now) (start-body c .args .parts .now)))
+    (start-body c .args .out .now) (c .before .before .before .before .before .write-fixed .last .1 .1 .1 .1 .1 .0) 36
 at-body c =
-    let start = c .before .before .before .before .before .before .before .before .before .before .before .before in
+    let start = start-body c in
     header-first (typeNumber (start .args .packet-type)) (start .args .flags .0) (start .args .id) (start .args .area .now) (start .args .parts .now) (start .args .out .now) (start .pre .1) (c .before .before .before .before .before .write-fixed .ensures) (sym (c .before .before .has-variable-header .ensures) ∙ c .before .if1 .taken)
 
 sub-write-body : tie.Need-sub-write-body
