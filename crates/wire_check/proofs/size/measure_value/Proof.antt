@@ -50,7 +50,7 @@ cap-requires : tie.Need-cap-requires
 cap-requires c κs = search needs
 
 returns : tie.Need-returns
-returns c = 
+returns c =
     let start = c .before .before .before .before .before in
     let blob = kind-blob (start .args .kind) _ (c .before .before .before .before .kind-of .ensures) (c .before .before .enum-told5 .given .1) in
     blob-long (start .args .kind) (start .args .length) (start .args .size) (blob .0) (omega (arith, blob .1)) (c .before .if1 .taken) _ (c .cap .ensures)
@@ -68,31 +68,31 @@ add-to-rowset-size-requires-5 : tie.Need-add-to-rowset-size-requires-5
 add-to-rowset-size-requires-5 c κs = search needs
 
 returns-2 : tie.Need-returns-2
-returns-2 c = 
+returns-2 c =
     let start = c .before .before .before .before in
     let null = kind-null (start .args .kind) _ (c .before .before .before .kind-of .ensures) (c .before .enum-told .given .1) in
     none-adds (start .args .kind) (start .args .length) (start .args .size) (scalar-low (start .args .kind) (omega (arith, null))) (blob-low (start .args .kind) (omega (arith, null))) (c .add-to-rowset-size .result) (c .add-to-rowset-size .ensures)
 
 returns-3 : tie.Need-returns-3
-returns-3 c = 
+returns-3 c =
     let start = c .before .before .before .before in
     let none = kind-unknown (start .args .kind) _ (c .before .before .before .kind-of .ensures) (c .before .enum-told2 .given .1) in
     none-adds (start .args .kind) (start .args .length) (start .args .size) (none .1) (none .2) (c .add-to-rowset-size2 .result) (c .add-to-rowset-size2 .ensures)
 
 returns-4 : tie.Need-returns-4
-returns-4 c = 
+returns-4 c =
     let start = c .before .before .before .before in
     let word = kind-word (start .args .kind) _ (c .before .before .before .kind-of .ensures) (c .before .enum-told3 .given .1) in
     scalar-adds (start .args .kind) (start .args .length) (start .args .size) (word .0) (omega (arith, word .1)) (c .add-to-rowset-size3 .result) (c .add-to-rowset-size3 .ensures)
 
 returns-5 : tie.Need-returns-5
-returns-5 c = 
+returns-5 c =
     let start = c .before .before .before .before in
     let boolean = kind-boolean (start .args .kind) _ (c .before .before .before .kind-of .ensures) (c .before .enum-told4 .given .1) in
     scalar-adds (start .args .kind) (start .args .length) (start .args .size) (omega (arith, boolean)) (omega (arith, boolean)) (c .add-to-rowset-size4 .result) (c .add-to-rowset-size4 .ensures)
 
 returns-6 : tie.Need-returns-6
-returns-6 c = 
+returns-6 c =
     let start = c .before .before .before .before .before .before in
     let blob = kind-blob (start .args .kind) _ (c .before .before .before .before .before .kind-of .ensures) (c .before .before .before .enum-told5 .given .1) in
     blob-adds (start .args .kind) (start .args .length) (start .args .size) (blob .0) (omega (arith, blob .1)) (c .before .before .if1 .left) _ (c .before .padded .ensures) (c .add-to-rowset-size5 .result) (c .add-to-rowset-size5 .ensures)

@@ -6,12 +6,12 @@ use Rattle.wire_check.proofs.table.bad_value.Statement.{statement}
 use Rattle.wire_check.proofs.table.bad_value.Tie as tie
 
 returns : tie.Need-returns
-returns c = 
+returns c =
     let start = c .before in
     bad-id (start .args .size) (start .args .id) (start .args .kind) (start .args .aggregate) (start .args .bits) (start .args .length) (c .if1 .taken)
 
 returns-2 : tie.Need-returns-2
-returns-2 c = 
+returns-2 c =
     let start = c .before .before in
     bad-flag (start .args .size) (start .args .id) (start .args .kind) (start .args .aggregate) (start .args .bits) (start .args .length) (c .before .if1 .left) (c .if2 .taken)
 
@@ -25,7 +25,7 @@ enum-told-2 : tie.Need-enum-told-2
 enum-told-2 c = search needs
 
 returns-3 : tie.Need-returns-3
-returns-3 c = 
+returns-3 c =
     let start = c .before .before .before .before .before .before in
     bad-null (start .args .size) (start .args .id) (start .args .kind) (start .args .aggregate) (start .args .bits) (start .args .length) (c .before .before .before .before .before .if1 .left) (c .before .before .before .before .if2 .left) (kind-null (start .args .kind) _ (c .before .before .before .kind-of .ensures) (c .before .enum-told2 .given .1)) (c .if3 .taken)
 
@@ -36,7 +36,7 @@ enum-told-4 : tie.Need-enum-told-4
 enum-told-4 c = search needs
 
 returns-4 : tie.Need-returns-4
-returns-4 c = 
+returns-4 c =
     let start = c .before .before .before .before .before .before in
     bad-boolean (start .args .size) (start .args .id) (start .args .kind) (start .args .aggregate) (start .args .bits) (start .args .length) (c .before .before .before .before .before .if1 .left) (c .before .before .before .before .if2 .left) (kind-boolean (start .args .kind) _ (c .before .before .before .kind-of .ensures) (c .before .enum-told4 .given .1)) (c .if4 .taken)
 
@@ -44,34 +44,34 @@ enum-told-5 : tie.Need-enum-told-5
 enum-told-5 c = search needs
 
 returns-5 : tie.Need-returns-5
-returns-5 c = 
+returns-5 c =
     let start = c .before .before .before .before .before .before in
     let blob = kind-blob (start .args .kind) _ (c .before .before .before .kind-of .ensures) (c .before .enum-told5 .given .1) in
     bad-blob-long (start .args .size) (start .args .id) (start .args .kind) (start .args .aggregate) (start .args .bits) (start .args .length) (c .before .before .before .before .before .if1 .left) (c .before .before .before .before .if2 .left) (blob .0) (blob .1) (c .if5 .taken)
 
 returns-6 : tie.Need-returns-6
-returns-6 c = 
+returns-6 c =
     let start = c .before .before .before .before .before in
     bad-unknown (start .args .size) (start .args .id) (start .args .kind) (start .args .aggregate) (start .args .bits) (start .args .length) (c .before .before .before .before .if1 .left) (kind-unknown (start .args .kind) _ (c .before .before .kind-of .ensures) (c .enum-told .given .1) .0)
 
 returns-7 : tie.Need-returns-7
-returns-7 c = 
+returns-7 c =
     let start = c .before .before .before .before .before .before in
     null-length (start .args .size) (start .args .id) (start .args .kind) (start .args .aggregate) (start .args .bits) (start .args .length) (c .before .before .before .before .before .if1 .left) (c .before .before .before .before .if2 .left) (kind-null (start .args .kind) _ (c .before .before .before .kind-of .ensures) (c .before .enum-told2 .given .1)) (c .if3 .left)
 
 returns-8 : tie.Need-returns-8
-returns-8 c = 
+returns-8 c =
     let start = c .before .before .before .before .before in
     let word = kind-word (start .args .kind) _ (c .before .before .kind-of .ensures) (c .enum-told3 .given .1) in
     word-length (start .args .size) (start .args .id) (start .args .kind) (start .args .aggregate) (start .args .bits) (start .args .length) (c .before .before .before .before .if1 .left) (c .before .before .before .if2 .left) (word .0) (word .1)
 
 returns-9 : tie.Need-returns-9
-returns-9 c = 
+returns-9 c =
     let start = c .before .before .before .before .before .before in
     boolean-length (start .args .size) (start .args .id) (start .args .kind) (start .args .aggregate) (start .args .bits) (start .args .length) (c .before .before .before .before .before .if1 .left) (c .before .before .before .before .if2 .left) (kind-boolean (start .args .kind) _ (c .before .before .before .kind-of .ensures) (c .before .enum-told4 .given .1)) (c .if4 .left)
 
 returns-10 : tie.Need-returns-10
-returns-10 c = 
+returns-10 c =
     let start = c .before .before .before .before .before .before in
     let blob = kind-blob (start .args .kind) _ (c .before .before .before .kind-of .ensures) (c .before .enum-told5 .given .1) in
     bad-blob (start .args .size) (start .args .id) (start .args .kind) (start .args .aggregate) (start .args .bits) (start .args .length) (c .before .before .before .before .before .if1 .left) (c .before .before .before .before .if2 .left) (blob .0) (blob .1) (c .if5 .left)
