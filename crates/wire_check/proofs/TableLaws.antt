@@ -12,8 +12,8 @@ use lib.Seq.{drop-cons}
 use borrow.Author.Tests.{ltb-true, ltb-false, eqb-true, eqb-false, lt-ltb, le-ltb, eq-eqb, ne-eqb}
 use Rattle.words.specs.Decide.{firstFrom}
 use Rattle.words.proofs.DecideLaws.{first-miss, first-hit, first-end, first-none}
-use Rattle.wire.specs.Layout.{maxRows, entryWords, blob, known, valuesIn}
-use Rattle.wire.proofs.TypeLaws.{known-null, known-scalar, known-blob, unknown-low, unknown-middle, unknown-high, blob-yes, blob-low}
+use Rattle.wire.specs.Layout.{nullType, boolean, maxRows, entryWords, blob, known, valuesIn}
+use Rattle.wire.proofs.TypeLaws.{known-null, known-scalar, known-blob, blob-yes, blob-low}
 use Rattle.wire.specs.declared.error.WireError.the-variants.{TooManyRows, BadTable}
 use Rattle.wire_check.specs.Writing.{entriesIn, total, bad, badEntry, firstBad}
 use Rattle.wire_check.specs.Stages.{tableOrder}
@@ -70,68 +70,54 @@ module _ (size id type aggregate bits n : ℕ) where
   bad-id h = rw (lt-ltb 65535 id h)
 
   module _ (fits : id ≤ 65535) where
-    pub bad-low : type < 2 → true ≡ bad size id type aggregate bits n
+    pub bad-flag : 1 < aggregate → true ≡ bad size id type aggregate bits n
     unfolding bad
-    bad-low h = rw (le-ltb 65535 id fits, unknown-low type h)
+    bad-flag h = by-test (known type) (λ is. rw (le-ltb 65535 id fits, is, lt-ltb 1 aggregate h)) (λ isnt. rw (le-ltb 65535 id fits, isnt))
 
-    pub bad-high : 18 < type → true ≡ bad size id type aggregate bits n
+    pub bad-unknown : known type ≡ false → true ≡ bad size id type aggregate bits n
     unfolding bad
-    bad-high h = rw (le-ltb 65535 id fits, unknown-high type h)
+    bad-unknown isnt = rw (le-ltb 65535 id fits, isnt)
 
-    pub bad-middle : 6 < type → type < 16 → true ≡ bad size id type aggregate bits n
-    unfolding bad
-    bad-middle low high = rw (le-ltb 65535 id fits, unknown-middle type low high)
+    module _ (one : aggregate ≤ 1) where
+      -- a blob
+      module _ (low : 15 < type) (high : type < 19) where
+        blob-bad : bad size id type aggregate bits n ≡ ltb size (bits + n)
+        unfolding bad
+        blob-bad =
+            rw (le-ltb 65535 id fits, known-blob type low high, le-ltb 1 aggregate one, ne-eqb type boolean (λ e. omega arith), ne-eqb type nullType (λ e. omega arith), blob-yes type low high)
 
-    -- a blob
-    module _ (low : 16 ≤ type) (high : type ≤ 18) where
-      pub bad-blob-flag : 1 < aggregate → true ≡ bad size id type aggregate bits n
+        pub bad-blob-long : size < n → true ≡ bad size id type aggregate bits n
+        bad-blob-long long = sym (blob-bad ∙ lt-ltb size (bits + n) (omega arith))
+
+        pub bad-blob : n ≤ size → ltb (size - n) bits ≡ bad size id type aggregate bits n
+        bad-blob room = same-order (size - n) bits size (bits + n) (λ less. omega arith) (λ most. omega arith) ∙ sym blob-bad
+
+      -- a Null
+      pub bad-null : type ≡ nullType → (bits ≡ 0 → ⊥) → true ≡ bad size id type aggregate bits n
       unfolding bad
-      bad-blob-flag h = rw (le-ltb 65535 id fits, known-blob type low (omega arith), lt-ltb 1 aggregate h)
+      bad-null e h =
+          rw (le-ltb 65535 id fits, known-null type e, le-ltb 1 aggregate one, ne-eqb type boolean (λ f. omega arith), eq-eqb type nullType e, ne-eqb bits 0 h)
 
-      blob-bad : aggregate ≤ 1 → bad size id type aggregate bits n ≡ ltb size (bits + n)
+      pub null-length : type ≡ nullType → bits ≡ 0 → not (eqb n 0) ≡ bad size id type aggregate bits n
       unfolding bad
-      blob-bad h =
-          rw (le-ltb 65535 id fits, known-blob type low (omega arith), le-ltb 1 aggregate h, ne-eqb type 6 (λ e. omega arith), ne-eqb type 2 (λ e. omega arith), blob-yes type low (omega arith))
+      null-length e h =
+          rw (le-ltb 65535 id fits, known-null type e, le-ltb 1 aggregate one, ne-eqb type boolean (λ f. omega arith), eq-eqb type nullType e, eq-eqb bits 0 h, blob-low type (omega arith)) (or-nothing _)
 
-      pub bad-blob-long : aggregate ≤ 1 → size < n → true ≡ bad size id type aggregate bits n
-      bad-blob-long h long = sym (blob-bad h ∙ lt-ltb size (bits + n) (omega arith))
-
-      pub bad-blob : aggregate ≤ 1 → n ≤ size → ltb (size - n) bits ≡ bad size id type aggregate bits n
-      bad-blob h room = same-order (size - n) bits size (bits + n) (λ less. omega arith) (λ most. omega arith) ∙ sym (blob-bad h)
-
-    -- a Null or a scalar
-    module _ (low : 2 ≤ type) (high : type ≤ 6) where
-      known-is : known type ≡ true
-      known-is = by-test (eqb type 2) (λ t. known-null type (eqb-true type 2 t)) (λ t. known-scalar type (omega (arith, eqb-false type 2 t)) (omega arith))
-
-      pub bad-flag : 1 < aggregate → true ≡ bad size id type aggregate bits n
+      -- a boolean
+      pub bad-boolean : type ≡ boolean → 1 < bits → true ≡ bad size id type aggregate bits n
       unfolding bad
-      bad-flag h = rw (le-ltb 65535 id fits, known-is, lt-ltb 1 aggregate h)
+      bad-boolean e h = rw (le-ltb 65535 id fits, known-scalar type (omega arith) (omega arith), le-ltb 1 aggregate one, eq-eqb type boolean e, lt-ltb 1 bits h)
 
-      module _ (one : aggregate ≤ 1) where
-        pub bad-boolean : type ≡ 6 → 1 < bits → true ≡ bad size id type aggregate bits n
-        unfolding bad
-        bad-boolean e h = rw (le-ltb 65535 id fits, known-is, le-ltb 1 aggregate one, eq-eqb type 6 e, lt-ltb 1 bits h)
+      pub boolean-length : type ≡ boolean → bits ≤ 1 → not (eqb n 0) ≡ bad size id type aggregate bits n
+      unfolding bad
+      boolean-length e h =
+          rw (le-ltb 65535 id fits, known-scalar type (omega arith) (omega arith), le-ltb 1 aggregate one, eq-eqb type boolean e, le-ltb 1 bits h, ne-eqb type nullType (λ f. omega arith), blob-low type (omega arith)) (or-nothing _)
 
-        pub boolean-length : type ≡ 6 → bits ≤ 1 → not (eqb n 0) ≡ bad size id type aggregate bits n
-        unfolding bad
-        boolean-length e h =
-            rw (le-ltb 65535 id fits, known-is, le-ltb 1 aggregate one, eq-eqb type 6 e, le-ltb 1 bits h, ne-eqb type 2 (λ f. omega arith), blob-low type (omega arith)) (or-nothing _)
-
-        pub bad-null : type ≡ 2 → (bits ≡ 0 → ⊥) → true ≡ bad size id type aggregate bits n
-        unfolding bad
-        bad-null e h =
-            rw (le-ltb 65535 id fits, known-is, le-ltb 1 aggregate one, ne-eqb type 6 (λ f. omega arith), eq-eqb type 2 e, ne-eqb bits 0 h)
-
-        pub null-length : type ≡ 2 → bits ≡ 0 → not (eqb n 0) ≡ bad size id type aggregate bits n
-        unfolding bad
-        null-length e h =
-            rw (le-ltb 65535 id fits, known-is, le-ltb 1 aggregate one, ne-eqb type 6 (λ f. omega arith), eq-eqb type 2 e, eq-eqb bits 0 h, blob-low type (omega arith)) (or-nothing _)
-
-        pub scalar-length : (type ≡ 6 → ⊥) → (type ≡ 2 → ⊥) → not (eqb n 0) ≡ bad size id type aggregate bits n
-        unfolding bad
-        scalar-length e f =
-            rw (le-ltb 65535 id fits, known-is, le-ltb 1 aggregate one, ne-eqb type 6 e, ne-eqb type 2 f, blob-low type (omega arith)) (or-nothing _)
+      -- another scalar
+      pub word-length : 2 < type → type < boolean → not (eqb n 0) ≡ bad size id type aggregate bits n
+      unfolding bad
+      word-length low high =
+          rw (le-ltb 65535 id fits, known-scalar type low (omega arith), le-ltb 1 aggregate one, ne-eqb type boolean (λ e. omega arith), ne-eqb type nullType (λ e. omega arith), blob-low type (omega arith)) (or-nothing _)
 
 -- Where none is wrong, each of the tests fails
 

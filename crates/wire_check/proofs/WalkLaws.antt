@@ -11,9 +11,9 @@ use lib.Seq.{drop-cons}
 use borrow.Author.Tests.{lt-ltb, le-ltb}
 use Rattle.words.specs.Answer.{Answer, accepted, refuse}
 use Rattle.words.specs.Decide.{_⇒_, decide, _<?_}
-use Rattle.wire.specs.Layout.{maxSize, maxValues, maxLength, entryWords, blob, padded, valuesIn}
+use Rattle.wire.specs.Layout.{maxSize, maxValues, maxLength, entryWords, scalar, blob, padded, valuesIn}
 use Rattle.wire.specs.Paper.{paper}
-use Rattle.wire.proofs.TypeLaws.{blob-low, blob-high, blob-yes, scalar-low, scalar-high, payload-none, payload-scalar, payload-blob}
+use Rattle.wire.proofs.TypeLaws.{blob-low, blob-yes, payload-none, payload-scalar, payload-blob}
 use Rattle.wire.specs.declared.error.WireError.{WireError}
 use Rattle.wire.specs.declared.error.WireError.the-variants.{TooManyValues, ValueTooLong, RowsetTooLarge}
 use Rattle.wire_check.specs.Writing.{typeIn, lengthIn, total, tooLarge, capped, sizeOf, valueSize, valuesSize, rowSize, rowsSize, rowsetSize, valueOrder, countOrder}
@@ -64,20 +64,8 @@ module _ (type n size : ℕ) where
   value-adds more r short e adds =
       follows-still (decide (tooLarge (size + more) ∷ [])) (decide (valueOrder type n size)) (size + more) (size + sizeOf type n) r ((λ rest. rw (short, e)), rw e) adds
 
-  pub none-low : type < 3 → (r : Measured) → Adds size 8 r → Follows (decide (valueOrder type n size)) (size + sizeOf type n) r
-  none-low h r adds =
-      let no : blob type ≡ false = blob-low type (omega arith) in
-      value-adds 8 r (rw no) (rw (payload-none type n (scalar-low type (omega arith)) no)) adds
-
-  pub none-middle : 7 ≤ type → type < 16 → (r : Measured) → Adds size 8 r → Follows (decide (valueOrder type n size)) (size + sizeOf type n) r
-  none-middle low high r adds =
-      let no : blob type ≡ false = blob-low type (omega arith) in
-      value-adds 8 r (rw no) (rw (payload-none type n (scalar-high type low) no)) adds
-
-  pub none-high : 18 < type → (r : Measured) → Adds size 8 r → Follows (decide (valueOrder type n size)) (size + sizeOf type n) r
-  none-high h r adds =
-      let no : blob type ≡ false = blob-high type h in
-      value-adds 8 r (rw no) (rw (payload-none type n (scalar-high type (omega arith)) no)) adds
+  pub none-adds : scalar type ≡ false → blob type ≡ false → (r : Measured) → Adds size 8 r → Follows (decide (valueOrder type n size)) (size + sizeOf type n) r
+  none-adds none isnt r adds = value-adds 8 r (rw isnt) (rw (payload-none type n none isnt)) adds
 
   pub scalar-adds : 3 ≤ type → type < 7 → (r : Measured) → Adds size 16 r → Follows (decide (valueOrder type n size)) (size + sizeOf type n) r
   scalar-adds low high r adds =

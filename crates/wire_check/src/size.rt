@@ -13,10 +13,13 @@ ghost use Rattle.wire_check.specs.Statement.{Measures};
 use super::table::Verdict;
 use super::table::check_tables;
 use wire::error::WireError;
+use wire::kind::Kind;
+use wire::kind::kind_of;
 use wire::layout::ENTRY_WORDS;
 use wire::layout::MAX_ROWSET_SIZE;
 use wire::layout::MAX_VALUE_LENGTH;
 use wire::layout::MAX_VALUES_PER_ROW;
+use wire::layout::WORD_SIZE;
 use wire::layout::padded;
 use wire::layout::values_in;
 use words::outcome::Outcome;
@@ -54,24 +57,20 @@ fn measure_value(kind: u64, length: u64, size: usize) -> Measured
     requires { ⌜ size ≤ maxSize ⌝ }
     ensures { λ r. ⌜ Follows (decide (valueOrder kind length size)) (size + sizeOf kind length) r ⌝ }
 {
-    if kind < 3 {
-        return add_to_rowset_size(size, 8);
+    match kind_of(kind) {
+        Kind::Null => add_to_rowset_size(size, WORD_SIZE),
+        Kind::Unknown => add_to_rowset_size(size, WORD_SIZE),
+        Kind::Word => add_to_rowset_size(size, WORD_SIZE + WORD_SIZE),
+        Kind::Boolean => add_to_rowset_size(size, WORD_SIZE + WORD_SIZE),
+        Kind::Blob => {
+            if (MAX_VALUE_LENGTH as u64) < length {
+                return Measured::Refused(WireError::ValueTooLong {
+                    length: cap(length),
+                });
+            }
+            add_to_rowset_size(size, WORD_SIZE + padded(length as u32))
+        }
     }
-    if kind < 7 {
-        return add_to_rowset_size(size, 16);
-    }
-    if kind < 16 {
-        return add_to_rowset_size(size, 8);
-    }
-    if 18 < kind {
-        return add_to_rowset_size(size, 8);
-    }
-    if (MAX_VALUE_LENGTH as u64) < length {
-        return Measured::Refused(WireError::ValueTooLong {
-            length: cap(length),
-        });
-    }
-    add_to_rowset_size(size, 8 + padded(length as u32))
 }
 
 // So many values, each with its 12 and 13.

@@ -7,6 +7,8 @@ ghost use Rattle.wire.specs.Layout.{entryWords};
 ghost use Rattle.wire_check.specs.Writing.{total, bad, badEntry, firstBad};
 ghost use Rattle.wire_check.specs.Stages.{ChecksTables};
 use wire::error::WireError;
+use wire::kind::Kind;
+use wire::kind::kind_of;
 use wire::layout::ENTRY_WORDS;
 use wire::layout::MAX_ROWS_PER_ROWSET;
 use wire::layout::values_in;
@@ -40,40 +42,31 @@ fn bad_value(size: u64, id: u64, kind: u64, aggregate: u64, bits: u64, length: u
     if 65535 < id {
         return true;
     }
-    if kind < 2 {
-        return true;
-    }
-    if 18 < kind {
-        return true;
-    }
-    if 6 < kind {
-        if kind < 16 {
-            return true;
-        }
-        if 1 < aggregate {
-            return true;
-        }
-        if size < length {
-            return true;
-        }
-        return size - length < bits;
-    }
     if 1 < aggregate {
         return true;
     }
-    if kind == 6 {
-        if 1 < bits {
-            return true;
+    match kind_of(kind) {
+        Kind::Unknown => true,
+        Kind::Null => {
+            if bits != 0 {
+                return true;
+            }
+            length != 0
         }
-        return length != 0;
-    }
-    if kind == 2 {
-        if bits != 0 {
-            return true;
+        Kind::Word => length != 0,
+        Kind::Boolean => {
+            if 1 < bits {
+                return true;
+            }
+            length != 0
         }
-        return length != 0;
+        Kind::Blob => {
+            if size < length {
+                return true;
+            }
+            size - length < bits
+        }
     }
-    length != 0
 }
 
 // Rule 3 of the entry that begins at the word `k`.

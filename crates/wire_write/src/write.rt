@@ -12,7 +12,10 @@ ghost use Rattle.wire_check.specs.Stages.{Good};
 ghost use Rattle.wire_write.specs.Statement.{Encodes};
 ghost use Rattle.wire_write.specs.Stages.{Puts, headerBytes, blobBytes};
 use wire::error::WireError;
+use wire::kind::Kind;
+use wire::kind::kind_of;
 use wire::layout::ENTRY_WORDS;
+use wire::layout::WORD_SIZE;
 use wire::layout::values_in;
 use wire_check::size::Measured;
 use wire_check::size::encoded_size;
@@ -44,7 +47,7 @@ fn write_blob(area: &[u8], offset: usize, length: usize, out: &mut [u8]) -> usiz
 {
     let end = offset + length;
     write_bytes(out, &area[offset..end]);
-    let padding = (8 - length % 8) % 8;
+    let padding = (WORD_SIZE - length % WORD_SIZE) % WORD_SIZE;
     write_zeros(&mut out[length..], padding);
     length + padding
 }
@@ -63,15 +66,22 @@ fn write_value(
     ensures { λ r. ⌜ Puts (valueBytes (now (area .entry)) id kind aggregate bits length) (now (out .entry)) (now (out .exit)) r ⌝ }
 {
     write_u64(out, header(id, kind, aggregate, length));
-    if kind < 3 {
-        return 8;
+    match kind_of(kind) {
+        Kind::Null => WORD_SIZE,
+        Kind::Unknown => WORD_SIZE,
+        Kind::Word => {
+            write_u64(&mut out[WORD_SIZE..], bits);
+            WORD_SIZE + WORD_SIZE
+        }
+        Kind::Boolean => {
+            write_u64(&mut out[WORD_SIZE..], bits);
+            WORD_SIZE + WORD_SIZE
+        }
+        Kind::Blob => {
+            let size = write_blob(area, bits as usize, length as usize, &mut out[WORD_SIZE..]);
+            WORD_SIZE + size
+        }
     }
-    if kind < 7 {
-        write_u64(&mut out[8..], bits);
-        return 16;
-    }
-    let size = write_blob(area, bits as usize, length as usize, &mut out[8..]);
-    8 + size
 }
 
 // The value whose entry begins at the word `k`.

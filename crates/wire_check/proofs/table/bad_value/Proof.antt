@@ -1,47 +1,80 @@
--- `table::bad_value` meets its contract: each way out is one of the laws of an entry's words.
--- Assumes nothing.
-use Rattle.wire_check.proofs.TableLaws.{bad-id, bad-low, bad-high, bad-middle, bad-blob-flag, bad-blob-long, bad-blob, bad-flag, bad-boolean, boolean-length, bad-null, null-length, scalar-length}
+-- `table::bad_value` meets its contract: the id, the aggregate, then by the kind. Assumes nothing.
+use Rattle.wire.proofs.KindLaws.{kind-null, kind-word, kind-boolean, kind-blob, kind-unknown}
+use Rattle.wire_check.proofs.TableLaws.{bad-id, bad-flag, bad-unknown, bad-blob-long, bad-blob, bad-null, null-length, bad-boolean, boolean-length, word-length}
+use borrow.Author.Needs.{needs}
 use Rattle.wire_check.proofs.table.bad_value.Statement.{statement}
 use Rattle.wire_check.proofs.table.bad_value.Tie as tie
 
 returns : tie.Need-returns
-returns c = bad-id _ _ _ _ _ _ (c .if1 .taken)
+returns c =
+    let start = c .before in
+    bad-id (start .args .size) (start .args .id) (start .args .kind) (start .args .aggregate) (start .args .bits) (start .args .length) (c .if1 .taken)
 
 returns-2 : tie.Need-returns-2
-returns-2 c = bad-low _ _ _ _ _ _ (c .before .if1 .left) (c .if2 .taken)
+returns-2 c =
+    let start = c .before .before in
+    bad-flag (start .args .size) (start .args .id) (start .args .kind) (start .args .aggregate) (start .args .bits) (start .args .length) (c .before .if1 .left) (c .if2 .taken)
+
+kind-of-requires : tie.Need-kind-of-requires
+kind-of-requires c κs = search needs
+
+enum-told : tie.Need-enum-told
+enum-told c = search needs
+
+enum-told-2 : tie.Need-enum-told-2
+enum-told-2 c = search needs
 
 returns-3 : tie.Need-returns-3
-returns-3 c = bad-high _ _ _ _ _ _ (c .before .before .if1 .left) (c .if3 .taken)
+returns-3 c =
+    let start = c .before .before .before .before .before .before in
+    bad-null (start .args .size) (start .args .id) (start .args .kind) (start .args .aggregate) (start .args .bits) (start .args .length) (c .before .before .before .before .before .if1 .left) (c .before .before .before .before .if2 .left) (kind-null (start .args .kind) _ (c .before .before .before .kind-of .ensures) (c .before .enum-told2 .given .1)) (c .if3 .taken)
+
+enum-told-3 : tie.Need-enum-told-3
+enum-told-3 c = search needs
+
+enum-told-4 : tie.Need-enum-told-4
+enum-told-4 c = search needs
 
 returns-4 : tie.Need-returns-4
-returns-4 c = bad-middle _ _ _ _ _ _ (c .before .before .before .before .if1 .left) (c .before .if4 .taken) (c .if5 .taken)
+returns-4 c =
+    let start = c .before .before .before .before .before .before in
+    bad-boolean (start .args .size) (start .args .id) (start .args .kind) (start .args .aggregate) (start .args .bits) (start .args .length) (c .before .before .before .before .before .if1 .left) (c .before .before .before .before .if2 .left) (kind-boolean (start .args .kind) _ (c .before .before .before .kind-of .ensures) (c .before .enum-told4 .given .1)) (c .if4 .taken)
+
+enum-told-5 : tie.Need-enum-told-5
+enum-told-5 c = search needs
 
 returns-5 : tie.Need-returns-5
-returns-5 c = bad-blob-flag _ _ _ _ _ _ (c .before .before .before .before .before .if1 .left) (c .before .if5 .left) (c .before .before .before .if3 .left) (c .if6 .taken)
+returns-5 c =
+    let start = c .before .before .before .before .before .before in
+    let blob = kind-blob (start .args .kind) _ (c .before .before .before .kind-of .ensures) (c .before .enum-told5 .given .1) in
+    bad-blob-long (start .args .size) (start .args .id) (start .args .kind) (start .args .aggregate) (start .args .bits) (start .args .length) (c .before .before .before .before .before .if1 .left) (c .before .before .before .before .if2 .left) (blob .0) (blob .1) (c .if5 .taken)
 
 returns-6 : tie.Need-returns-6
-returns-6 c = bad-blob-long _ _ _ _ _ _ (c .before .before .before .before .before .before .if1 .left) (c .before .before .if5 .left) (c .before .before .before .before .if3 .left) (c .before .if6 .left) (c .if7 .taken)
+returns-6 c =
+    let start = c .before .before .before .before .before in
+    bad-unknown (start .args .size) (start .args .id) (start .args .kind) (start .args .aggregate) (start .args .bits) (start .args .length) (c .before .before .before .before .if1 .left) (kind-unknown (start .args .kind) _ (c .before .before .kind-of .ensures) (c .enum-told .given .1) .0)
 
 returns-7 : tie.Need-returns-7
-returns-7 c = bad-blob _ _ _ _ _ _ (c .before .before .before .before .before .before .if1 .left) (c .before .before .if5 .left) (c .before .before .before .before .if3 .left) (c .before .if6 .left) (c .if7 .left)
+returns-7 c =
+    let start = c .before .before .before .before .before .before in
+    null-length (start .args .size) (start .args .id) (start .args .kind) (start .args .aggregate) (start .args .bits) (start .args .length) (c .before .before .before .before .before .if1 .left) (c .before .before .before .before .if2 .left) (kind-null (start .args .kind) _ (c .before .before .before .kind-of .ensures) (c .before .enum-told2 .given .1)) (c .if3 .left)
 
 returns-8 : tie.Need-returns-8
-returns-8 c = bad-flag _ _ _ _ _ _ (c .before .before .before .before .if1 .left) (c .before .before .before .if2 .left) (c .before .if4 .left) (c .if8 .taken)
+returns-8 c =
+    let start = c .before .before .before .before .before in
+    let word = kind-word (start .args .kind) _ (c .before .before .kind-of .ensures) (c .enum-told3 .given .1) in
+    word-length (start .args .size) (start .args .id) (start .args .kind) (start .args .aggregate) (start .args .bits) (start .args .length) (c .before .before .before .before .if1 .left) (c .before .before .before .if2 .left) (word .0) (word .1)
 
 returns-9 : tie.Need-returns-9
-returns-9 c = bad-boolean _ _ _ _ _ _ (c .before .before .before .before .before .before .if1 .left) (c .before .before .before .before .before .if2 .left) (c .before .before .before .if4 .left) (c .before .before .if8 .left) (c .before .if9 .taken) (c .if10 .taken)
+returns-9 c =
+    let start = c .before .before .before .before .before .before in
+    boolean-length (start .args .size) (start .args .id) (start .args .kind) (start .args .aggregate) (start .args .bits) (start .args .length) (c .before .before .before .before .before .if1 .left) (c .before .before .before .before .if2 .left) (kind-boolean (start .args .kind) _ (c .before .before .before .kind-of .ensures) (c .before .enum-told4 .given .1)) (c .if4 .left)
 
 returns-10 : tie.Need-returns-10
-returns-10 c = boolean-length _ _ _ _ _ _ (c .before .before .before .before .before .before .if1 .left) (c .before .before .before .before .before .if2 .left) (c .before .before .before .if4 .left) (c .before .before .if8 .left) (c .before .if9 .taken) (c .if10 .left)
-
-returns-11 : tie.Need-returns-11
-returns-11 c = bad-null _ _ _ _ _ _ (c .before .before .before .before .before .before .before .if1 .left) (c .before .before .before .before .before .before .if2 .left) (c .before .before .before .before .if4 .left) (c .before .before .before .if8 .left) (c .before .if11 .taken) (c .if12 .taken)
-
-returns-12 : tie.Need-returns-12
-returns-12 c = null-length _ _ _ _ _ _ (c .before .before .before .before .before .before .before .if1 .left) (c .before .before .before .before .before .before .if2 .left) (c .before .before .before .before .if4 .left) (c .before .before .before .if8 .left) (c .before .if11 .taken) (c .if12 .left)
-
-returns-13 : tie.Need-returns-13
-returns-13 c = scalar-length _ _ _ _ _ _ (c .before .before .before .before .before .before .if1 .left) (c .before .before .before .before .before .if2 .left) (c .before .before .before .if4 .left) (c .before .before .if8 .left) (c .before .if9 .left) (c .if11 .left)
+returns-10 c =
+    let start = c .before .before .before .before .before .before in
+    let blob = kind-blob (start .args .kind) _ (c .before .before .before .kind-of .ensures) (c .before .enum-told5 .given .1) in
+    bad-blob (start .args .size) (start .args .id) (start .args .kind) (start .args .aggregate) (start .args .bits) (start .args .length) (c .before .before .before .before .before .if1 .left) (c .before .before .before .before .if2 .left) (blob .0) (blob .1) (c .if5 .left)
 
 pub bad-value-spec : {M : Type 1} → statement M
 bad-value-spec =
@@ -49,14 +82,17 @@ bad-value-spec =
     (tie.spec
     returns
     returns-2
+    kind-of-requires
+    enum-told
+    enum-told-2
     returns-3
+    enum-told-3
+    enum-told-4
     returns-4
+    enum-told-5
     returns-5
     returns-6
     returns-7
     returns-8
     returns-9
-    returns-10
-    returns-11
-    returns-12
-    returns-13)
+    returns-10)
