@@ -6,10 +6,10 @@ use mathlib.Core.List.{List}
 use Rattle.words.specs.Statement.{OneResult}
 use Rattle.words.proofs.Unique.{equal-to-one}
 use Rattle.crc64.specs.Statement.{ChecksumIs, SwapIs}
-use Rattle.packet_table.specs.Statement.{PartChecksumIs}
-use Rattle.wire.specs.Statement.{TellsPlain}
+use Rattle.packet.specs.Statement.{PartChecksumIs}
+use Rattle.wire_read.specs.Statement.{TellsPlain}
 use Rattle.guid.specs.Guid.{guidOf, guidOfHalves}
-use Rattle.face.specs.declared.outcome.Outcome.{Outcome}
+use Rattle.words.specs.declared.outcome.Outcome.{Outcome}
 use Rattle.face.specs.Statement.{Updates, WritesId, Prints, Parses, GivesParts, GivesHalves, TellsNull, Decodes, Encodes, Measures, Validates, LendsPart, Contains, DecodesRowset, EncodesRowset, MeasuresRowset, ReadsValue}
 
 -- so of two things, and of three
@@ -52,7 +52,7 @@ cablefinch-guid-is-null-unique id = equal-to-one _
 pub cablefinch-decode-with-unique : (s : List ℕ) (limit ceiling : ℕ) (table : List ℕ) → OneResult (λ (x : Outcome × List ℕ). Decodes s limit ceiling table (x .0) (x .1))
 cablefinch-decode-with-unique s limit ceiling table = equal-to-two _ _
 
-pub cablefinch-decode-unique : (s : List ℕ) (limit : ℕ) (table : List ℕ) → OneResult (λ (x : Outcome × List ℕ). Decodes s limit 65536 table (x .0) (x .1))
+pub cablefinch-decode-unique : (s : List ℕ) (limit : ℕ) (table : List ℕ) → OneResult (λ (x : Outcome × List ℕ). Decodes s limit defaultCeiling table (x .0) (x .1))
 cablefinch-decode-unique s limit table = cablefinch-decode-with-unique s limit 65536 table
 
 pub cablefinch-encode-unique : (type flags : ℕ) (id area table out : List ℕ) → OneResult (λ (x : Outcome × List ℕ). Encodes type flags id area table out (x .0) (x .1))

@@ -1,3 +1,2 @@
--- The face's definitions: an answer in words, and what each exported function promises.
-pub mod Outcome
+-- What each exported function promises.
 pub mod Statement

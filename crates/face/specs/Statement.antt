@@ -6,25 +6,27 @@ use mathlib.Core.Bool.{Bool}
 use mathlib.Core.List.{List, [], _∷_}
 use lib.Bits.{bitAnd}
 use lib.ListN.{length}
-use Rattle.words.specs.Answer.{Answer, accepted, refuse, afterwards}
-use Rattle.words.specs.Buffer.{fitted}
+use Rattle.words.specs.Answer.{Answer, accepted, refuse}
 use Rattle.words.specs.Decide.{pick, decide, _⇒_, _<?_, _=?_}
+use Rattle.words.specs.Paper.{Tells, roomLine}
+use Rattle.words.specs.Statement.{Holds}
+use Rattle.words.specs.declared.outcome.Outcome.{Outcome}
+use Rattle.words.specs.declared.outcome.Room.the-variants.{Output}
 use Rattle.crc64.specs.Polynomial.{fold}
 use Rattle.crc64.specs.Table.{swapped}
 use Rattle.guid.specs.declared.Guid.{Guid}
 use Rattle.guid.specs.Guid.{wireBytes, guidAt, wordsOf, firstHalf, secondHalf, isNull}
 use Rattle.guid.specs.Text.{textOf, printing, reading as readingText}
-use Rattle.packet.specs.Reading.{reading, room, entries}
-use Rattle.packet_table.specs.Checks.{validating, sizing}
-use Rattle.packet_table.specs.Entries.{lentAt, offsetAt}
-use Rattle.packet_table.specs.Wire.{packetBytes, partsOf}
+use Rattle.packet.specs.Layout.{lastType}
+use Rattle.packet.specs.Entries.{entries, lentAt, offsetAt}
+use Rattle.packet.specs.Wire.{packetBytes, partsOf}
+use Rattle.packet_read.specs.Reading.{limited, reading}
+use Rattle.packet_check.specs.Checks.{validating, sizing}
 use Rattle.packet_write.specs.Writing.{writing}
-use Rattle.wire_value.specs.Layout.{countAt, rowWords, valueWords, rowsetBytes}
+use Rattle.wire.specs.Layout.{countAt, rowWords, valueWords, rowsetBytes}
 use Rattle.wire_value.specs.ValueOrder.{valueReading}
-use Rattle.wire.specs.Reading as rowset
-use Rattle.wire_table.specs.Writing as rowsetWriting
-use Rattle.face.specs.declared.outcome.Outcome.{Outcome}
-use Rattle.face.specs.Outcome.{outcome}
+use Rattle.wire_read.specs.Reading as rowset
+use Rattle.wire_check.specs.Writing as rowsetWriting
 
 -- the register is held byte-swapped
 abbrev pub Updates : ℕ → List ℕ → ℕ → Type 0
@@ -33,22 +35,24 @@ Updates register bytes r = r ≡ swapped 8 (fold (swapped 8 register) bytes)
 -- GUIDs, lent as wire bytes
 
 abbrev pub writingId : ℕ → Answer
-writingId given = decide (given <? 16 ⇒ refuse 17 (4 ∷ 16 ∷ given ∷ []) ∷ []) (accepted 16 [])
+writingId given = decide (roomLine Output 16 given ∷ []) (accepted 16 [])
 
 abbrev pub WritesId : Guid → List ℕ → Outcome → List ℕ → Type 0
-WritesId g before r after = (r ≡ outcome (writingId (length before))) × (after ≡ fitted (wireBytes g) before)
+WritesId g before r after = Tells (writingId (length before)) r × Holds (writingId (length before)) (wireBytes g) before after
 
 abbrev pub Prints : List ℕ → List ℕ → Outcome → List ℕ → Type 0
-Prints id before r after = (r ≡ outcome (printing (guidAt id 0) (length before))) × (after ≡ fitted (textOf (guidAt id 0)) before)
+Prints id before r after =
+    let answer = printing (guidAt id 0) (length before) in
+    Tells answer r × Holds answer (textOf (guidAt id 0)) before after
 
 abbrev pub Parses : List ℕ → Outcome → Type 0
-Parses text r = r ≡ outcome (readingText text)
+Parses text r = Tells (readingText text) r
 
 abbrev pub GivesParts : List ℕ → Outcome → Type 0
-GivesParts id r = r ≡ outcome (accepted 0 (wordsOf (guidAt id 0)))
+GivesParts id r = Tells (accepted 0 (wordsOf (guidAt id 0))) r
 
 abbrev pub GivesHalves : List ℕ → Outcome → Type 0
-GivesHalves id r = r ≡ outcome (accepted 0 (firstHalf (guidAt id 0) ∷ secondHalf (guidAt id 0) ∷ []))
+GivesHalves id r = Tells (accepted 0 (firstHalf (guidAt id 0) ∷ secondHalf (guidAt id 0) ∷ [])) r
 
 abbrev pub TellsNull : List ℕ → Bool → Type 0
 TellsNull id r = r ≡ isNull (guidAt id 0)
@@ -57,32 +61,33 @@ TellsNull id r = r ≡ isNull (guidAt id 0)
 
 abbrev pub Decodes : List ℕ → ℕ → ℕ → List ℕ → Outcome → List ℕ → Type 0
 Decodes s limit ceiling table r after =
-    (r ≡ outcome (reading s limit ceiling (room table))) × (after ≡ afterwards (reading s limit ceiling (room table)) (entries s) table)
+    let answer = reading s (limited limit ceiling table) in
+    Tells answer r × Holds answer (entries s) table after
 
--- a type that there is not is refused by 2, before all else
+-- an unknown type is refused by 2, before any other check
+abbrev pub unknownType : ℕ → Answer
+unknownType type = refuse 2 (type ∷ [])
+
 abbrev pub typed : ℕ → Answer → Answer
-typed type answer = decide (2 <? type ⇒ refuse 2 (type ∷ []) ∷ []) answer
-
-abbrev pub encoding : ℕ → List ℕ → List ℕ → ℕ → Answer
-encoding type area table given = typed type (writing type area table given)
+typed type answer = decide (lastType <? type ⇒ unknownType type ∷ []) answer
 
 abbrev pub Encodes : ℕ → ℕ → List ℕ → List ℕ → List ℕ → List ℕ → Outcome → List ℕ → Type 0
 Encodes type flags id area table out r after =
-    (r ≡ outcome (encoding type area table (length out)))
-    × (after ≡ afterwards (encoding type area table (length out)) (packetBytes type flags (wordsOf (guidAt id 0)) (partsOf area table)) out)
+    let answer = typed type (writing type area table (length out)) in
+    Tells answer r × Holds answer (packetBytes type flags (guidAt id 0) (partsOf area table)) out after
 
 abbrev pub Measures : ℕ → List ℕ → List ℕ → Outcome → Type 0
-Measures type area table r = r ≡ outcome (typed type (sizing area table type))
+Measures type area table r = Tells (typed type (sizing area table type)) r
 
 abbrev pub Validates : List ℕ → List ℕ → Outcome → Type 0
-Validates area table r = r ≡ outcome (validating area table)
+Validates area table r = Tells (validating area table) r
 
 -- where part i lies: the offset and the length of its stretch, the offset 0 where that is empty
 abbrev pub lentFrom : List ℕ → List ℕ → ℕ → ℕ
 lentFrom input table i = pick (length (lentAt input table i) =? 0) 0 (offsetAt table i)
 
 abbrev pub LendsPart : List ℕ → List ℕ → ℕ → Outcome → Type 0
-LendsPart input table i r = r ≡ outcome (accepted 0 (lentFrom input table i ∷ length (lentAt input table i) ∷ []))
+LendsPart input table i r = Tells (accepted 0 (lentFrom input table i ∷ length (lentAt input table i) ∷ [])) r
 
 abbrev pub Contains : ℕ → ℕ → Bool → Type 0
 Contains flags other r = r ≡ (bitAnd flags other =? other)
@@ -91,17 +96,18 @@ Contains flags other r = r ≡ (bitAnd flags other =? other)
 
 abbrev pub DecodesRowset : List ℕ → List ℕ → List ℕ → Outcome → List ℕ → List ℕ → Type 0
 DecodesRowset s rows values r rows′ values′ =
-    (r ≡ outcome (rowset.reading s (length rows) (length values)))
-    × (rows′ ≡ afterwards (rowset.reading s (length rows) (length values)) (rowWords s (countAt s 0) 8) rows)
-    × (values′ ≡ afterwards (rowset.reading s (length rows) (length values)) (valueWords s (countAt s 0) 8) values)
+    let answer = rowset.reading s (length rows) (length values) in
+    Tells answer r
+    × Holds answer (rowWords s (countAt s 0) 8) rows rows′
+    × Holds answer (valueWords s (countAt s 0) 8) values values′
 
 abbrev pub EncodesRowset : List ℕ → List ℕ → List ℕ → List ℕ → Outcome → List ℕ → Type 0
 EncodesRowset area rows values before r after =
-    (r ≡ outcome (rowsetWriting.writing area rows values (length before)))
-    × (after ≡ afterwards (rowsetWriting.writing area rows values (length before)) (rowsetBytes area rows values) before)
+    let answer = rowsetWriting.writing area rows values (length before) in
+    Tells answer r × Holds answer (rowsetBytes area rows values) before after
 
 abbrev pub MeasuresRowset : List ℕ → List ℕ → List ℕ → Outcome → Type 0
-MeasuresRowset area rows values r = r ≡ outcome (rowsetWriting.measuring area rows values)
+MeasuresRowset area rows values r = Tells (rowsetWriting.measuring area rows values) r
 
 abbrev pub ReadsValue : List ℕ → ℕ → Outcome → Type 0
-ReadsValue s at r = r ≡ outcome (valueReading s at)
+ReadsValue s at r = Tells (valueReading s at) r

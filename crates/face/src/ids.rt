@@ -1,19 +1,26 @@
 // GUIDs: an id is lent as its sixteen wire bytes, of which a missing one counts as 0.
 ghost use Rattle.guid.specs.Guid.{guidOf, guidOfHalves};
 ghost use Rattle.face.specs.Statement.{WritesId, Prints, Parses, GivesParts, GivesHalves, TellsNull};
-use super::flat;
-use super::outcome::Outcome;
 use guid::Guid;
+use words::outcome::NoRoom;
+use words::outcome::Outcome;
+use words::outcome::Room;
+use words::outcome::no_room;
+use words::outcome::taken;
 
 // The sixteen bytes over the front of `out`, or 17.
 fn write_id(id: Guid, out: &mut [u8]) -> Outcome
     ensures { λ r. ⌜ WritesId id (now (out .entry)) r (now (out .exit)) ⌝ }
 {
     if out.len() < 16 {
-        return flat::words(2, 17, 0, 4, 16, out.len() as u64);
+        return no_room(NoRoom {
+            room: Room::Output,
+            needed: 16,
+            given: out.len() as u64,
+        });
     }
     id.write(out);
-    flat::words(0, 0, 16, 0, 0, 0)
+    taken(16, 0, 0, 0)
 }
 
 #[no_mangle]
@@ -41,21 +48,21 @@ pub extern "C" fn cablefinch_guid_print(id: &[u8], out: &mut [u8]) -> Outcome
     ensures { λ r. ⌜ Prints (now (id .entry)) (now (out .entry)) r (now (out .exit)) ⌝ }
 {
     let guid = Guid::from_bytes(id, 0);
-    flat::printed(guid.print(out))
+    guid::printed_outcome(guid.print(out))
 }
 
 #[no_mangle]
 pub extern "C" fn cablefinch_guid_parse(text: &[u8]) -> Outcome
     ensures { λ r. ⌜ Parses (now (text .entry)) r ⌝ }
 {
-    flat::parsed(Guid::parse(text))
+    guid::parsed_outcome(Guid::parse(text))
 }
 
 #[no_mangle]
 pub extern "C" fn cablefinch_guid_parts(id: &[u8]) -> Outcome
     ensures { λ r. ⌜ GivesParts (now (id .entry)) r ⌝ }
 {
-    flat::parsed(guid::Parsed::Read(Guid::from_bytes(id, 0)))
+    guid::words_outcome(Guid::from_bytes(id, 0))
 }
 
 #[no_mangle]
@@ -64,7 +71,7 @@ pub extern "C" fn cablefinch_guid_halves(id: &[u8]) -> Outcome
 {
     let guid = Guid::from_bytes(id, 0);
     let halves = guid.halves();
-    flat::words(0, 0, 0, halves.0, halves.1, 0)
+    taken(0, halves.0, halves.1, 0)
 }
 
 #[no_mangle]

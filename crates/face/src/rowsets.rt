@@ -1,8 +1,7 @@
 // Rowsets: read into lent row and value tables, written from them; one value by itself; the plain form.
-ghost use Rattle.wire.specs.Statement.{TellsPlain};
+ghost use Rattle.wire_read.specs.Statement.{TellsPlain};
 ghost use Rattle.face.specs.Statement.{DecodesRowset, EncodesRowset, MeasuresRowset, ReadsValue};
-use super::flat;
-use super::outcome::Outcome;
+use words::outcome::Outcome;
 
 #[no_mangle]
 pub extern "C" fn cablefinch_decode_rowset(
@@ -12,7 +11,7 @@ pub extern "C" fn cablefinch_decode_rowset(
 ) -> Outcome
     ensures { λ r. ⌜ DecodesRowset (now (input .entry)) (now (rows .entry)) (now (values .entry)) r (now (rows .exit)) (now (values .exit)) ⌝ }
 {
-    flat::rowset_decoded(wire::rowset::decode_rowset(input, rows, values))
+    wire_read::rowset::outcome(wire_read::rowset::decode_rowset(input, rows, values))
 }
 
 #[no_mangle]
@@ -24,26 +23,26 @@ pub extern "C" fn cablefinch_encode_rowset(
 ) -> Outcome
     ensures { λ r. ⌜ EncodesRowset (now (area .entry)) (now (rows .entry)) (now (values .entry)) (now (out .entry)) r (now (out .exit)) ⌝ }
 {
-    flat::rowset_encoded(wire_write::write::encode_rowset(area, rows, values, out))
+    wire_write::write::outcome(wire_write::write::encode_rowset(area, rows, values, out))
 }
 
 #[no_mangle]
 pub extern "C" fn cablefinch_rowset_size(area: &[u8], rows: &[u64], values: &[u64]) -> Outcome
     ensures { λ r. ⌜ MeasuresRowset (now (area .entry)) (now (rows .entry)) (now (values .entry)) r ⌝ }
 {
-    flat::rowset_measured(wire_table::size::encoded_size(area, rows, values))
+    wire_check::size::outcome(wire_check::size::encoded_size(area, rows, values))
 }
 
 #[no_mangle]
 pub extern "C" fn cablefinch_read_value(input: &[u8], at: usize) -> Outcome
     ensures { λ r. ⌜ ReadsValue (now (input .entry)) at r ⌝ }
 {
-    flat::value_read(wire_value::value::read_value(input, at))
+    wire_value::value::outcome(wire_value::value::read_value(input, at))
 }
 
 #[no_mangle]
 pub extern "C" fn cablefinch_is_plain(input: &[u8]) -> bool
     ensures { λ r. ⌜ TellsPlain (now (input .entry)) r ⌝ }
 {
-    wire::plain::is_plain(input)
+    wire_read::plain::is_plain(input)
 }

@@ -7,6 +7,7 @@ use native.Mathlib.Omega.{arith}
 use lib.ListN.{length}
 use borrow.Author.Tests.{eq-eqb, ne-eqb, lt-ltb, le-ltb, eqb-true, ltb-false, not-false}
 use Rattle.words.specs.Answer.{Answer, accepted, more, refused, refuse}
+use Rattle.words.specs.Decide.{decide}
 use Rattle.words.proofs.AcceptLaws.{isAccepted, acceptedCount, silent, decided}
 use Rattle.packet.specs.Layout.{mostParts}
 use Rattle.packet.specs.Entries.{entryWords, room}

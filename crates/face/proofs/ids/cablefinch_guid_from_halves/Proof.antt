@@ -1,4 +1,4 @@
--- `cablefinch_guid_from_halves` meets its contract. Assumes nothing.
+-- `cablefinch_guid_from_halves` meets its contract: the id of the halves, written. Assumes nothing.
 use borrow.Author.Needs.{needs}
 use Rattle.face.proofs.ids.cablefinch_guid_from_halves.Statement.{statement}
 use Rattle.face.proofs.ids.cablefinch_guid_from_halves.Tie as tie

@@ -1,4 +1,4 @@
--- `cablefinch_guid_from_parts` meets its contract. Assumes nothing.
+-- `cablefinch_guid_from_parts` meets its contract: the id of the words, written. Assumes nothing.
 use borrow.Author.Needs.{needs}
 use Rattle.face.proofs.ids.cablefinch_guid_from_parts.Statement.{statement}
 use Rattle.face.proofs.ids.cablefinch_guid_from_parts.Tie as tie

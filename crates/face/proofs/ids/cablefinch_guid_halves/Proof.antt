@@ -1,9 +1,9 @@
--- `cablefinch_guid_halves` meets its contract. Assumes nothing.
+-- `cablefinch_guid_halves` meets its contract: the halves of the GUID of the bytes. Assumes nothing.
 use mathlib.Core.Path.{_∙_, ap}
-use mathlib.Core.List.{_∷_, []}
+use mathlib.Core.List.{[], _∷_}
+use Rattle.words.specs.Paper.{outcomeOf}
 use Rattle.guid.specs.declared.Halves.{Halves}
 use Rattle.guid.specs.Guid.{halvesOf}
-use Rattle.face.specs.Outcome.{outcomeOf}
 use borrow.Author.Needs.{needs}
 use Rattle.face.proofs.ids.cablefinch_guid_halves.Statement.{statement}
 use Rattle.face.proofs.ids.cablefinch_guid_halves.Tie as tie
@@ -14,12 +14,12 @@ from-bytes-requires c κs = search needs
 halves-requires : tie.Need-halves-requires
 halves-requires c κs = search needs
 
-words-requires : tie.Need-words-requires
-words-requires c κs = search needs
+taken-requires : tie.Need-taken-requires
+taken-requires c κs = search needs
 
 returns : tie.Need-returns
-returns c = c .words .ensures ∙ ap (λ (h : Halves). outcomeOf 0 0 0 (h .0 ∷ h .1 ∷ [])) (c .before .halves .ensures ∙ ap halvesOf (c .before .before .from-bytes .ensures))
+returns c = c .taken .ensures ∙ ap (λ (h : Halves). outcomeOf 0 0 0 (h .0 ∷ h .1 ∷ [])) (c .before .halves .ensures ∙ ap halvesOf (c .before .before .from-bytes .ensures))
 
 pub cablefinch-guid-halves-spec : {M : Type 1} → statement M
 cablefinch-guid-halves-spec =
-    tie.close (tie.spec from-bytes-requires halves-requires words-requires returns)
+    tie.close (tie.spec from-bytes-requires halves-requires taken-requires returns)

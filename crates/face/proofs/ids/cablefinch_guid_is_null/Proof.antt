@@ -1,4 +1,4 @@
--- `cablefinch_guid_is_null` meets its contract. Assumes nothing.
+-- `cablefinch_guid_is_null` meets its contract: the GUID is the one of the bytes. Assumes nothing.
 use mathlib.Core.Path.{_∙_, ap}
 use Rattle.guid.specs.Guid.{isNull}
 use borrow.Author.Needs.{needs}

@@ -1,8 +1,5 @@
--- `cablefinch_decode` meets its contract. Assumes nothing.
-use Rattle.face.proofs.OutcomeLaws.{told}
-use mathlib.Core.Path.{_∙_, ap}
-use Rattle.words.specs.Answer.{Answer, afterwards}
-use Rattle.packet.specs.Reading.{entries}
+-- `cablefinch_decode` meets its contract: the library's answer in words, and its table. Assumes nothing.
+use Rattle.words.proofs.PaperLaws.{told}
 use borrow.Author.Needs.{needs}
 use Rattle.face.proofs.packets.cablefinch_decode.Statement.{statement}
 use Rattle.face.proofs.packets.cablefinch_decode.Tie as tie
@@ -10,16 +7,14 @@ use Rattle.face.proofs.packets.cablefinch_decode.Tie as tie
 decode-requires : tie.Need-decode-requires
 decode-requires c κs = search needs
 
-decoded-requires : tie.Need-decoded-requires
-decoded-requires c κs = search needs
+outcome-requires : tie.Need-outcome-requires
+outcome-requires c κs = search needs
 
 same-length : tie.Need-same-length
 same-length c = search needs
 
 returns : tie.Need-returns
-returns c =
-    let e = c .before .before .before .decode .ensures in
-    (told (e .answer) (c .decoded .ensures), e .tables ∙ ap (λ (a : Answer). afterwards a (entries (c .before .before .before .before .before .before .before .args .input .now)) (c .before .before .before .before .before .before .before .args .parts .now)) (e .answer))
+returns c = let e = c .before .before .before .decode .ensures in (told (e .answer) (c .outcome .ensures), e .tables)
 
 pub cablefinch-decode-spec : {M : Type 1} → statement M
-cablefinch-decode-spec = tie.close (tie.spec decode-requires decoded-requires same-length returns)
+cablefinch-decode-spec = tie.close (tie.spec decode-requires outcome-requires same-length returns)

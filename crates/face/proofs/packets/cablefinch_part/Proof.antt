@@ -1,4 +1,4 @@
--- `cablefinch_part` meets its contract. Assumes nothing.
+-- `cablefinch_part` meets its contract: nothing, or where the stretch lies. Assumes nothing.
 use mathlib.Core.Path.{refl}
 use borrow.Author.Tests.{ne-eqb}
 use Rattle.face.proofs.OutcomeLaws.{part-empty, part-outside, part-there}
@@ -9,44 +9,44 @@ use Rattle.face.proofs.packets.cablefinch_part.Tie as tie
 part-requires : tie.Need-part-requires
 part-requires c κs = search needs
 
-words-requires : tie.Need-words-requires
-words-requires c κs = search needs
+taken-requires : tie.Need-taken-requires
+taken-requires c κs = search needs
 
 returns : tie.Need-returns
-returns c = part-empty _ _ _ (c .before .before .part .ensures) (c .before .if1 .taken) (c .words .ensures)
+returns c = part-empty _ _ _ (c .before .before .part .ensures .bytes) (c .before .if1 .taken) (c .taken .ensures)
 
-words-requires-2 : tie.Need-words-requires-2
-words-requires-2 c κs = search needs
+taken-requires-2 : tie.Need-taken-requires-2
+taken-requires-2 c κs = search needs
 
 returns-2 : tie.Need-returns-2
-returns-2 c = part-empty _ _ _ (part-outside _ _ _ (c .before .if2 .taken)) refl (c .words2 .ensures)
+returns-2 c = part-empty _ _ _ (part-outside _ _ _ (c .before .if2 .taken)) refl (c .taken2 .ensures)
 
-mul-words : tie.Need-mul-words
-mul-words c = search needs
+mul-taken : tie.Need-mul-taken
+mul-taken c = search needs
 
-mul-words-2 : tie.Need-mul-words-2
-mul-words-2 c = search needs
+mul-taken-2 : tie.Need-mul-taken-2
+mul-taken-2 c = search needs
 
-shared-slice-read-words : tie.Need-shared-slice-read-words
-shared-slice-read-words c = search needs
+shared-slice-read-taken : tie.Need-shared-slice-read-taken
+shared-slice-read-taken c = search needs
 
-words-requires-3 : tie.Need-words-requires-3
-words-requires-3 c κs = search needs
+taken-requires-3 : tie.Need-taken-requires-3
+taken-requires-3 c κs = search needs
 
 returns-3 : tie.Need-returns-3
-returns-3 c = part-there _ _ _ (c .before .before .before .before .part .ensures) (ne-eqb _ 0 (c .before .before .before .if1 .left)) refl (c .words3 .ensures)
+returns-3 c = part-there _ _ _ (c .before .before .before .before .part .ensures .bytes) (ne-eqb _ 0 (c .before .before .before .if1 .left)) refl (c .taken3 .ensures)
 
 pub cablefinch-part-spec : {M : Type 1} → statement M
 cablefinch-part-spec =
     tie.close
     (tie.spec
     part-requires
-    words-requires
+    taken-requires
     returns
-    words-requires-2
+    taken-requires-2
     returns-2
-    mul-words
-    mul-words-2
-    shared-slice-read-words
-    words-requires-3
+    mul-taken
+    mul-taken-2
+    shared-slice-read-taken
+    taken-requires-3
     returns-3)

@@ -1,5 +1,5 @@
--- `cablefinch_read_value` meets its contract. Assumes nothing.
-use Rattle.face.proofs.OutcomeLaws.{told}
+-- `cablefinch_read_value` meets its contract: the library's answer in words. Assumes nothing.
+use Rattle.words.proofs.PaperLaws.{told}
 use borrow.Author.Needs.{needs}
 use Rattle.face.proofs.rowsets.cablefinch_read_value.Statement.{statement}
 use Rattle.face.proofs.rowsets.cablefinch_read_value.Tie as tie
@@ -7,11 +7,11 @@ use Rattle.face.proofs.rowsets.cablefinch_read_value.Tie as tie
 read-value-requires : tie.Need-read-value-requires
 read-value-requires c κs = search needs
 
-value-read-requires : tie.Need-value-read-requires
-value-read-requires c κs = search needs
+outcome-requires : tie.Need-outcome-requires
+outcome-requires c κs = search needs
 
 returns : tie.Need-returns
-returns c = told (c .before .read-value .ensures .0) (c .value-read .ensures)
+returns c = told (c .before .read-value .ensures .0) (c .outcome .ensures)
 
 pub cablefinch-read-value-spec : {M : Type 1} → statement M
-cablefinch-read-value-spec = tie.close (tie.spec read-value-requires value-read-requires returns)
+cablefinch-read-value-spec = tie.close (tie.spec read-value-requires outcome-requires returns)
