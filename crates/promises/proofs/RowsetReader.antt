@@ -11,20 +11,22 @@ use lib.ListN.{length}
 use Rattle.words.specs.Paper.{noRoomValues}
 use Rattle.words.specs.declared.outcome.NoRoom as words
 use Rattle.words.specs.declared.outcome.Room.the-variants.{Rows, Values}
-use Rattle.words.specs.Decide.{pick, decide}
+use Rattle.words.specs.Decide.{pick, Line, Silent, Decides, decide}
+use Rattle.words.specs.Note.{answers}
+use Rattle.words.proofs.DecideLaws.{deciding}
 use Rattle.words.specs.Answer.{Answer, accepted, refuse}
 use Rattle.wire.specs.Layout.{nullMark, maxRows, maxValues, maxLength, entryWords, known, blob, valuesIn, typeAt, lengthAt, payloadAt, countAt, nextRow, nextRows, nextValue, nextValues}
 use Rattle.wire_value.specs.ValueOrder.{valueOrder}
 use Rattle.wire.specs.declared.error.WireError.the-variants.{NoRoom}
 use Rattle.wire_read.specs.Stages.{readValues, countOrder, readRow, readRows, headOrder, readRowset, roomOrder}
-use Rattle.wire_read.specs.Reading.{reading, endOf, valuesOf}
+use Rattle.wire_read.specs.Reading.{reading, endOf, valuesOf, readingLines}
 use Rattle.wire_read.specs.Paper.{paperDecoded}
 use Rattle.wire_read.specs.Statement.{Decodes}
 use Rattle.wire_read.specs.declared.rowset.Decoded.{Decoded}
 use Rattle.wire_read.specs.declared.rowset.Decoded.the-variants.{Read, Refused}
 use Rattle.wire_read.proofs.Unique.{decoded-injective}
 use Rattle.wire_read.proofs.ReadingLaws.{reading-walks}
-use Rattle.promises.specs.RowsetReader.{RowStands, ValueStands, Acceptable, Roomy, RowsetReaderAccepts}
+use Rattle.promises.specs.RowsetReader.{RowStands, ValueStands, Acceptable, Roomy, RowsetReaderAccepts, RowsetOrderDecides}
 use Rattle.promises.proofs.CellRound.{by-test}
 use Rattle.promises.proofs.RowsetWriter.{lets, Lets, passed}
 
@@ -196,3 +198,21 @@ rowset-reader-accepts s rows values r rows′ values′ decodes = (
     by-short true b short e x y = let z : _≡_ {A = ℕ} 0 1 = cc in omega arith
     by-short false true short e x y = let z : _≡_ {A = ℕ} 0 1 = cc in omega arith
     by-short false false short e x y = let z : _≡_ {A = ℕ} 0 1 = cc in omega arith
+
+-- One line decides, or none does.
+pub rowset-order-decides : RowsetOrderDecides
+unfolding reading
+rowset-order-decides s rows values r rows′ values′ decodes =
+    ⊎-elim
+    (λ (one : Decides lines answer). inl (rw (decodes .0) one))
+    (λ (none : Silent lines × (answer ≡ last)). inr (none .0, decoded-injective r (Read (countAt s 0) (valuesOf s)) (decodes .0 ∙ none .1)))
+    (deciding lines last)
+  where
+    lines : List (Line Answer)
+    lines = answers (readingLines s (length rows) (length values))
+
+    last : Answer
+    last = accepted 0 (countAt s 0 ∷ valuesOf s ∷ [])
+
+    answer : Answer
+    answer = decide lines last

@@ -9,7 +9,10 @@ use Rattle.wire.specs.Layout.{nullMark, maxRows, maxValues, maxLength, entryWor
 use Rattle.words.specs.declared.outcome.NoRoom as words
 use Rattle.words.specs.declared.outcome.Room.the-variants.{Rows, Values}
 use Rattle.wire.specs.declared.error.WireError.the-variants.{NoRoom}
-use Rattle.wire_read.specs.Reading.{endOf, valuesOf}
+use Rattle.words.specs.Decide.{Silent, Decides}
+use Rattle.words.specs.Note.{answers}
+use Rattle.wire_read.specs.Reading.{endOf, valuesOf, readingLines}
+use Rattle.wire_read.specs.Paper.{paperDecoded}
 use Rattle.wire_read.specs.Statement.{Decodes}
 use Rattle.wire_read.specs.declared.rowset.Decoded.{Decoded}
 use Rattle.wire_read.specs.declared.rowset.Decoded.the-variants.{Read, Refused}
@@ -63,3 +66,11 @@ RowsetReaderAccepts =
     × (Acceptable s → length rows < countAt s 0 → r ≡ Refused (NoRoom (record { room = Rows; needed = countAt s 0; given = length rows })))
     × (Acceptable s → countAt s 0 ≤ length rows → length values / entryWords < valuesOf s
     → r ≡ Refused (NoRoom (record { room = Values; needed = valuesOf s; given = length values / entryWords })))
+
+-- The answer is that of one line of the order, the lines before it silent; or all are silent, and the rowset is read. The same line
+-- tells what it found (document 02, A9).
+abbrev pub RowsetOrderDecides : Type 0
+RowsetOrderDecides =
+    (s rows values : List ℕ) (r : Decoded) (rows′ values′ : List ℕ) → Decodes s rows values r rows′ values′
+    → let lines = answers (readingLines s (length rows) (length values)) in
+    Decides lines (paperDecoded r) ⊎ (Silent lines × (r ≡ Read (countAt s 0) (valuesOf s)))
