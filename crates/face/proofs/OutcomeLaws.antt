@@ -5,6 +5,7 @@ use mathlib.Core.Bool.{Bool, false, not, _&&_}
 use mathlib.Core.List.{List, [], _∷_}
 use lib.Dec.{eqb}
 use lib.ListN.{length}
+use native.Mathlib.Omega.{arith}
 use borrow.Author.Tests.{lt-ltb, le-ltb}
 use Rattle.words.specs.Answer.{Answer, accepted}
 use Rattle.words.specs.Decide.{pick, _=?_}
@@ -16,7 +17,10 @@ use Rattle.words.proofs.BufferLaws.{fitted-fits}
 use Rattle.guid.specs.declared.Guid.{Guid}
 use Rattle.guid.specs.Guid.{wireBytes}
 use Rattle.guid.proofs.WireLaws.{length-wire}
+use Rattle.packet.specs.declared.PacketType.{PacketType}
+use Rattle.packet.specs.declared.PacketType.the-variants.{Message, Ack, SslAck}
 use Rattle.packet.specs.Layout.{lastType}
+use Rattle.packet.specs.Paper.{typeNumber}
 use Rattle.packet.specs.Entries.{room, offsetAt, nullAt, outsideAt, isLent, stretchAt, lentAt}
 use Rattle.face.specs.Statement.{WritesId, unknownType, typed, LendsPart}
 
@@ -38,6 +42,11 @@ typed-refused type a above = sym (ap (λ (b : Bool). pick b (unknownType type) a
 
 pub typed-known : (type : ℕ) (a : Answer) → type ≤ lastType → a ≡ typed type a
 typed-known type a known = sym (ap (λ (b : Bool). pick b (unknownType type) a) (le-ltb lastType type known))
+
+pub number-known : (type : PacketType) {n : ℕ} → typeNumber type ≡ n → n ≤ lastType
+number-known Message e = omega arith
+number-known Ack e = omega arith
+number-known SslAck e = omega arith
 
 -- Where a part lies
 

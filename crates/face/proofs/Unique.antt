@@ -7,6 +7,7 @@ use Rattle.words.specs.Statement.{OneResult}
 use Rattle.words.proofs.Unique.{equal-to-one}
 use Rattle.crc64.specs.Statement.{ChecksumIs, SwapIs}
 use Rattle.packet.specs.Statement.{PartChecksumIs}
+use Rattle.packet_read.specs.Statement.{defaultCeiling}
 use Rattle.wire_read.specs.Statement.{TellsPlain}
 use Rattle.guid.specs.Guid.{guidOf, guidOfHalves}
 use Rattle.words.specs.declared.outcome.Outcome.{Outcome}
@@ -53,7 +54,7 @@ pub cablefinch-decode-with-unique : (s : List ℕ) (limit ceiling : ℕ) (table 
 cablefinch-decode-with-unique s limit ceiling table = equal-to-two _ _
 
 pub cablefinch-decode-unique : (s : List ℕ) (limit : ℕ) (table : List ℕ) → OneResult (λ (x : Outcome × List ℕ). Decodes s limit defaultCeiling table (x .0) (x .1))
-cablefinch-decode-unique s limit table = cablefinch-decode-with-unique s limit 65536 table
+cablefinch-decode-unique s limit table = cablefinch-decode-with-unique s limit defaultCeiling table
 
 pub cablefinch-encode-unique : (type flags : ℕ) (id area table out : List ℕ) → OneResult (λ (x : Outcome × List ℕ). Encodes type flags id area table out (x .0) (x .1))
 cablefinch-encode-unique type flags id area table out = equal-to-two _ _

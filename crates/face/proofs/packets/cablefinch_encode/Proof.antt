@@ -1,53 +1,69 @@
+-- `cablefinch_encode` meets its contract: its test of the type, and the library's answer and bytes. Assumes nothing.
+use mathlib.Core.Path.{_≡_, _∙_, ap}
+use mathlib.Core.List.{List}
+use Prim.Native.Nat.{ℕ, _≤_}
+use lib.ListN.{length}
+use Rattle.words.specs.Answer.{Answer, afterwards}
+use Rattle.words.proofs.PaperLaws.{told}
+use Rattle.guid.specs.declared.Guid.{Guid}
+use Rattle.guid.specs.Guid.{guidAt}
+use Rattle.packet.specs.Layout.{lastType}
+use Rattle.packet.specs.Wire.{packetBytes, partsOf}
+use Rattle.packet_write.specs.Writing.{writing}
+use Rattle.face.proofs.OutcomeLaws.{typed-refused, typed-known, number-known}
 use borrow.Author.Needs.{needs}
 use Rattle.face.proofs.packets.cablefinch_encode.Statement.{statement}
 use Rattle.face.proofs.packets.cablefinch_encode.Tie as tie
-use Rattle.face.proofs.packets.cablefinch_encode.Reads as reads
-use Rattle.face.proofs.packets.cablefinch_encode.Lts as lts
-use Rattle.face.proofs.packets.unknown_type.Reads as unknown-type-reads
-use Rattle.guid.proofs.Guid.from_bytes.Reads as from-bytes-reads
-use Rattle.packet.proofs.type_of.Reads as type-of-reads
-use Rattle.packet_write.proofs.encode.Reads as encode-reads
-use Rattle.packet_write.proofs.outcome.Reads as outcome-reads
 
--- src/packets.rt:53:11
 type-of-requires : tie.Need-type-of-requires
 type-of-requires c κs = search needs
 
--- src/packets.rt:54:31
 enum-told : tie.Need-enum-told
 enum-told c = search needs
 
--- src/packets.rt:54:31
 unknown-type-requires : tie.Need-unknown-type-requires
 unknown-type-requires c κs = search needs
 
--- src/packets.rt:55:26
 enum-known-packet-type : tie.Need-enum-known-packet-type
 enum-known-packet-type c = search needs
 
--- src/packets.rt:56:17
 from-bytes-requires : tie.Need-from-bytes-requires
 from-bytes-requires c κs = search needs
 
--- src/packets.rt:58:35
 encode-requires : tie.Need-encode-requires
 encode-requires c κs = search needs
 
--- src/packets.rt:58:13
 outcome-requires : tie.Need-outcome-requires
 outcome-requires c κs = search needs
 
--- src/packets.rt:42:1
 returns : tie.Need-returns
-returns c = ?
+returns c =
+    let a = c .before .before .before .before .before .before .before .before .args in
+    let above = rw (c .before .enum-told .given .1) at (c .before .before .before .type-of .ensures) in
+    let so = typed-refused (a .kind) (writing (a .kind) (a .area .now) (a .parts .now) (length (a .out .now))) above in
+    let bytes = packetBytes (a .kind) (a .flags) (guidAt (a .id .now) 0) (partsOf (a .area .now) (a .parts .now)) in
+    (told so (c .unknown-type .ensures), ap (λ (x : Answer). afterwards x bytes (a .out .now)) so)
 
--- src/packets.rt:42:1
 same-length : tie.Need-same-length
 same-length c = search needs
 
--- src/packets.rt:42:1
 returns-2 : tie.Need-returns-2
-returns-2 c = ?
+returns-2 c =
+    let a = c .before .before .before .before .before .before .before .before .before .before .before .before .before .before .args in
+    let area : List ℕ = a .area .now in
+    let parts : List ℕ = a .parts .now in
+    let out : List ℕ = a .out .now in
+    let found = c .before .before .before .before .before .before .before .packet-type .given in
+    let type = rw (found .1) at (c .before .before .before .before .before .before .before .before .before .type-of .ensures) in
+    let id = c .before .before .before .before .before .from-bytes .ensures in
+    let e = c .before .before .before .encode .ensures in
+    let known : a .kind ≤ lastType = number-known (found .0 .0) type in
+    let so = typed-known (a .kind) (writing (a .kind) area parts (length out)) known in
+    (told (e .answer ∙ ap (λ (k : ℕ). writing k area parts (length out)) type ∙ so) (c .outcome .ensures),
+      e .output
+      ∙ ap (λ (k : ℕ). afterwards (writing k area parts (length out)) (packetBytes k (a .flags) (c .before .before .before .before .before .from-bytes .result) (partsOf area parts)) out) type
+      ∙ ap (λ (g : Guid). afterwards (writing (a .kind) area parts (length out)) (packetBytes (a .kind) (a .flags) g (partsOf area parts)) out) id
+      ∙ ap (λ (x : Answer). afterwards x (packetBytes (a .kind) (a .flags) (guidAt (a .id .now) 0) (partsOf area parts)) out) so)
 
 pub cablefinch-encode-spec : {M : Type 1} → statement M
 cablefinch-encode-spec =

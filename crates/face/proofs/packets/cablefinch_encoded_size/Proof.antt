@@ -1,44 +1,44 @@
+-- `cablefinch_encoded_size` meets its contract: its test of the type, and the library's answer. Assumes nothing.
+use mathlib.Core.Path.{_≡_, _∙_, ap}
+use Prim.Native.Nat.{ℕ, _≤_}
+use Rattle.words.proofs.PaperLaws.{told}
+use Rattle.packet.specs.Layout.{lastType}
+use Rattle.packet_check.specs.Checks.{sizing}
+use Rattle.face.proofs.OutcomeLaws.{typed-refused, typed-known, number-known}
 use borrow.Author.Needs.{needs}
 use Rattle.face.proofs.packets.cablefinch_encoded_size.Statement.{statement}
 use Rattle.face.proofs.packets.cablefinch_encoded_size.Tie as tie
-use Rattle.face.proofs.packets.cablefinch_encoded_size.Reads as reads
-use Rattle.face.proofs.packets.cablefinch_encoded_size.Lts as lts
-use Rattle.face.proofs.packets.unknown_type.Reads as unknown-type-reads
-use Rattle.packet.proofs.type_of.Reads as type-of-reads
-use Rattle.packet_check.proofs.encoded_size.Reads as encoded-size-reads
-use Rattle.packet_check.proofs.measured_outcome.Reads as measured-outcome-reads
 
--- src/packets.rt:67:11
 type-of-requires : tie.Need-type-of-requires
 type-of-requires c κs = search needs
 
--- src/packets.rt:68:31
 enum-told : tie.Need-enum-told
 enum-told c = search needs
 
--- src/packets.rt:68:31
 unknown-type-requires : tie.Need-unknown-type-requires
 unknown-type-requires c κs = search needs
 
--- src/packets.rt:69:26
 enum-known-packet-type : tie.Need-enum-known-packet-type
 enum-known-packet-type c = search needs
 
--- src/packets.rt:70:44
 encoded-size-requires : tie.Need-encoded-size-requires
 encoded-size-requires c κs = search needs
 
--- src/packets.rt:70:13
 measured-outcome-requires : tie.Need-measured-outcome-requires
 measured-outcome-requires c κs = search needs
 
--- src/packets.rt:63:1
 returns : tie.Need-returns
-returns c = ?
+returns c =
+    let above = rw (c .before .enum-told .given .1) at (c .before .before .before .type-of .ensures) in
+    told (typed-refused _ _ above) (c .unknown-type .ensures)
 
--- src/packets.rt:63:1
 returns-2 : tie.Need-returns-2
-returns-2 c = ?
+returns-2 c =
+    let a = c .before .before .before .before .before .before .before .before .args in
+    let found = c .before .before .before .packet-type .given in
+    let type = rw (found .1) at (c .before .before .before .before .before .type-of .ensures) in
+    let known : a .kind ≤ lastType = number-known (found .0 .0) type in
+    told (c .before .encoded-size .ensures ∙ ap (sizing (a .area .now) (a .parts .now)) type ∙ typed-known _ _ known) (c .measured-outcome .ensures)
 
 pub cablefinch-encoded-size-spec : {M : Type 1} → statement M
 cablefinch-encoded-size-spec =
