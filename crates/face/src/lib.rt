@@ -6,3 +6,4 @@ pub mod ids;
 pub mod outcome;
 pub mod packets;
 pub mod rowsets;
+pub mod version;
