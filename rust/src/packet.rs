@@ -12,7 +12,7 @@ mod write;
 
 pub use owned::OwnedPacket;
 pub use read::{Decoded, Decoder, Ready, decode, decode_with, ready, ready_with};
-pub use write::{Encoder, encode, encoded_size, part_checksum, validate};
+pub use write::{Encoder, encode, encoded_size, part_checksum, size, validate};
 
 use crate::guid::Guid;
 use crate::sys::{self, Outcome};

@@ -3,7 +3,7 @@
 
 use super::{
     ENTRY, FIXED_HEADER_SIZE, MAX_PART_COUNT, MAX_PART_SIZE, NULL_CHECKSUM, Packet, PacketError,
-    PacketType, Part, Parts, Repr, entry,
+    PacketType, Part, Repr, entry,
 };
 use crate::sys::{self, Outcome};
 use crate::table;
@@ -169,14 +169,16 @@ pub fn validate(packet: &Packet<'_>) -> Result<(), PacketError> {
 /// How many bytes [`encode`] appends, or why it refuses.
 pub fn encoded_size(packet: &Packet<'_>) -> Result<usize, PacketError> {
     validate(packet)?;
-    let payload = sum(&packet.parts);
-    Ok(bytes_of(packet.packet_type, packet.parts.len(), payload))
+    Ok(size(packet))
 }
 
-fn sum(parts: &Parts<'_>) -> usize {
-    parts.iter().fold(0, |sum, part| {
+/// How many bytes the packet's headers and parts have together, whether or not it can be written: the
+/// original's `encoded_size`.
+pub fn size(packet: &Packet<'_>) -> usize {
+    let payload = packet.parts.iter().fold(0usize, |sum, part| {
         sum.saturating_add(part.map_or(0, <[u8]>::len))
-    })
+    });
+    bytes_of(packet.packet_type, packet.parts.len(), payload)
 }
 
 /// Writes packets, and keeps its tables and its output from one to the next.
