@@ -181,9 +181,15 @@ fn number(word: &str) -> u64 {
 }
 
 fn bytes(word: &str) -> Vec<u8> {
-    if word == "-" {
-        return Vec::new();
+    match word {
+        "-" => Vec::new(),
+        word if word.contains('+') => word.split('+').flat_map(piece).collect(),
+        word => piece(word),
     }
+}
+
+/// Hex digits, or so many zeros.
+fn piece(word: &str) -> Vec<u8> {
     if let Some(count) = word.strip_prefix('z') {
         return vec![0; number(count) as usize];
     }
