@@ -27,6 +27,16 @@ impl Guid {
         id
     }
 
+    /// The same without a call of the library, which would take as long again as the rest of a packet
+    /// without parts.
+    pub(crate) fn from_wire_words(words: [u32; 4]) -> Self {
+        let mut id = Self::NULL;
+        for (bytes, word) in id.0.chunks_exact_mut(size_of::<u32>()).zip(words) {
+            bytes.copy_from_slice(&word.to_le_bytes());
+        }
+        id
+    }
+
     /// The two halves of eight bytes each.
     pub fn halves(&self) -> (u64, u64) {
         let [first, second, ..] = sys::guid_halves(&self.0).values;
@@ -167,6 +177,7 @@ mod tests {
         ] {
             assert_eq!(id.to_string().parse(), Ok(id));
             assert_eq!(Guid::from_parts(id.parts()), id);
+            assert_eq!(Guid::from_wire_words(id.parts()), id);
             let (first, second) = id.halves();
             assert_eq!(Guid::from_halves(first, second), id);
             assert_eq!(Guid::from(id.to_bytes()), id);

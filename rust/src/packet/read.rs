@@ -93,17 +93,18 @@ impl Front {
         Some(self.headers.saturating_add(payload))
     }
 
-    /// The parts to make room for: those of a packet that is whole. So nothing is reserved on a
-    /// peer's word alone, and the library reads no packet twice.
-    fn room(input: &[u8], ceiling: u32) -> usize {
+    /// The parts to make room for, beyond `room`: those of a packet that is whole. So nothing is
+    /// reserved on a peer's word alone, and the library reads no packet twice.
+    fn room(input: &[u8], ceiling: u32, room: usize) -> usize {
         let Some(front) = Self::of(input) else {
             return 0;
         };
-        let whole = front.whole(input).is_some_and(|whole| whole <= input.len());
-        if whole && front.parts <= ceiling as usize {
-            front.parts
-        } else {
-            0
+        if front.parts <= room || front.parts > ceiling as usize {
+            return 0;
+        }
+        match front.whole(input) {
+            Some(whole) if whole <= input.len() => front.parts,
+            _ => 0,
         }
     }
 }
@@ -182,7 +183,8 @@ impl Decoder {
     fn read(&mut self, input: &[u8], limit: u64, ceiling: u32) -> Result<Option<Header>, Refusal> {
         self.parts = 0;
         // Where there is no memory for it, 17 says so below.
-        table::grow(&mut self.words, Front::room(input, ceiling) * WIDTH);
+        let parts = Front::room(input, ceiling, self.words.len() / WIDTH);
+        table::grow(&mut self.words, parts.saturating_mul(WIDTH));
         let outcome = sys::decode_with(input, limit, ceiling, &mut self.words);
         match outcome.kind {
             sys::ACCEPTED => {
@@ -221,7 +223,7 @@ impl Header {
                 _ => PacketType::SslAck,
             },
             flags: PacketFlags(flags as u16),
-            id: Guid::from_parts([a, b, c, d].map(|word| word as u32)),
+            id: Guid::from_wire_words([a, b, c, d].map(|word| word as u32)),
             consumed: count(outcome.count),
         }
     }

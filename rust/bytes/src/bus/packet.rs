@@ -87,7 +87,12 @@ pub fn decode_with(
             return Err(refusal.error);
         }
     };
-    let bytes = input.split_to(consumed.min(input.len())).freeze();
+    let consumed = consumed.min(input.len());
+    if decoder.ranges().len() == 0 {
+        input.advance(consumed);
+        return Ok(Some(packet));
+    }
+    let bytes = input.split_to(consumed).freeze();
     // The library answers stretches of what was read, so that no range lies outside.
     let part = |range: std::ops::Range<usize>| match range.end <= bytes.len() {
         true => bytes.slice(range),
