@@ -126,17 +126,6 @@ impl<'a> Value<'a> {
         };
         ALIGNMENT + payload
     }
-
-    /// The word of a scalar, 0 where there is none.
-    fn word(&self) -> u64 {
-        match *self {
-            Self::Int64(number) => number as u64,
-            Self::Uint64(number) => number,
-            Self::Double(number) => number.to_bits(),
-            Self::Boolean(truth) => u64::from(truth),
-            _ => 0,
-        }
-    }
 }
 
 /// A value beside its column.
@@ -166,14 +155,24 @@ impl<'a> UnversionedValue<'a> {
     }
 
     /// The value's words in a table, for bytes that begin at `offset`.
+    #[inline]
     fn words(&self, offset: usize) -> [u64; WIDTH] {
-        let bytes = self.value.bytes();
+        let blob = |bytes: &[u8]| (offset as u64, bytes.len() as u64);
+        let (word, length) = match self.value {
+            Value::Null => (0, 0),
+            Value::Int64(number) => (number as u64, 0),
+            Value::Uint64(number) => (number, 0),
+            Value::Double(number) => (number.to_bits(), 0),
+            Value::Boolean(truth) => (u64::from(truth), 0),
+            Value::String(bytes) | Value::Any(bytes) | Value::Composite(bytes) => blob(bytes),
+        };
+        let kind = self.value.value_type() as u64;
         [
             u64::from(self.id),
-            self.value.value_type() as u64,
+            kind,
             u64::from(self.aggregate),
-            bytes.map_or(self.value.word(), |_| offset as u64),
-            bytes.map_or(0, <[u8]>::len) as u64,
+            word,
+            length,
         ]
     }
 

@@ -101,9 +101,11 @@ impl Pieces {
             let row = row.as_ref();
             self.rows.push(row.len() as u64);
             for value in row {
-                let bytes = value.value.bytes().unwrap_or_default();
-                let offset = place(&mut self.area, bytes);
-                self.values.extend(value.words(offset));
+                let offset = match value.value.bytes() {
+                    Some(bytes) => place(&mut self.area, bytes),
+                    None => 0,
+                };
+                self.values.extend_from_slice(&value.words(offset));
             }
         }
         Ok(())
