@@ -76,16 +76,16 @@ impl Decoder {
 
 /// How much room to begin with: all rows that are declared, and values as if every row were like
 /// the first that is not null; within what the library accepts, and what the input has bytes for.
-struct Guess {
-    rows: usize,
-    values: usize,
+pub(super) struct Guess {
+    pub(super) rows: usize,
+    pub(super) values: usize,
 }
 
 impl Guess {
     /// How many null rows it looks past.
     const NULLS: usize = 64;
 
-    fn of(input: &[u8]) -> Self {
+    pub(super) fn of(input: &[u8]) -> Self {
         let mut words = input
             .chunks_exact(ALIGNMENT)
             .map(|word| word.try_into().map_or(0, u64::from_le_bytes));

@@ -120,3 +120,31 @@ fn bytes_outlive_the_rowset() {
     };
     assert_eq!(kept, Some(&b"kept"[..]));
 }
+
+#[test]
+fn room_is_made_before_the_first_read() {
+    let value = UnversionedValue::new(1, Value::String(b"term"));
+    for (rows, nulls, values) in [
+        (0, 0, 0),
+        (1, 0, 1),
+        (900, 3, 65),
+        (70, 63, 1024),
+        (5, 5, 0),
+    ] {
+        let row = vec![value; values];
+        let rows: Vec<_> = (0..rows).map(|at| (at >= nulls).then_some(&row)).collect();
+        let bytes = encode_rowset(&rows).unwrap();
+        let guess = read::Guess::of(&bytes);
+        let needed: usize = rows.iter().map(|row| row.map_or(0, Vec::len)).sum();
+        assert_eq!(guess.rows, rows.len());
+        assert!(guess.values >= needed);
+        // No more than the input has bytes for.
+        assert!(guess.values <= bytes.len() / 16);
+    }
+    // Rows of other lengths than the first are read a second time, with the room that was told.
+    let (short, long) = (vec![value; 1], vec![value; 1000]);
+    let rows = [Some(&short), Some(&long), None, Some(&long)];
+    let bytes = encode_rowset(&rows).unwrap();
+    assert!(read::Guess::of(&bytes).values < 2001);
+    assert_eq!(decode_rowset(&bytes).unwrap().len(), 4);
+}
