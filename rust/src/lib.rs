@@ -9,7 +9,7 @@
 //!
 //! Nothing here panics on any input, and no size that a peer declares is allocated before the
 //! bytes that justify it are there. Every refusal has a number, `code()`, the same in all of
-//! Cablefinch.
+//! Cablefinch. After a refused packet, close the connection: [`packet::Refusal`] says why.
 //!
 //! ```
 //! use cablefinch::{Guid, packet, wire};

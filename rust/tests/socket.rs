@@ -275,7 +275,7 @@ fn a_peer_cannot_make_a_decoder_hold_much() {
     rowset[..8].copy_from_slice(&rows.to_le_bytes());
     rowset[8..16].copy_from_slice(&1024u64.to_le_bytes());
     assert!(decoder.decode_rowset(&rowset).is_err());
-    assert!(decoder.memory() <= 7 * rowset.len());
+    assert!(decoder.memory() <= 5 * rowset.len());
     decoder.shrink_to(0, 0);
     assert_eq!(decoder.memory(), 0);
 

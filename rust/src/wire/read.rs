@@ -12,11 +12,11 @@ const SCALAR: usize = 2 * ALIGNMENT;
 
 /// Reads rowsets, and keeps its tables from one to the next.
 ///
-/// The tables have 8 bytes for each row and 40 for each value of the largest rowset that was read,
-/// and at most twice that is held. For an input that is refused, no more is reserved than 8 bytes
-/// for a row that it declares, within [`MAX_ROWS_PER_ROWSET`], and 40 for every 16 bytes of the
-/// input: three and a half times the input, or twice that. [`Decoder::memory`] says what is held,
-/// [`Decoder::shrink_to`] gives it back.
+/// The tables have 8 bytes for each row and 40 for each value of the largest rowset that was read: at
+/// most five times its bytes, where every value is Null. For an input that is refused no more is
+/// reserved than two and a half times its bytes. At most twice as much is held, so that a table need
+/// not grow again and again. [`Decoder::memory`] says what is held, [`Decoder::shrink_to`] gives it
+/// back.
 #[derive(Debug, Clone, Default)]
 pub struct Decoder {
     rows: Vec<u64>,
