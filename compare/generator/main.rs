@@ -57,7 +57,8 @@ fn main() {
     };
     let mut output = BufWriter::with_capacity(1 << 18, io::stdout().lock());
     let written = match words.get(2).map(String::as_str) {
-        None => mixed(seed, count, &mut output),
+        None => begun(seed, count, &mut output),
+        Some("drawn") => drawn(seed, count, &mut output),
         Some("examples") => fixed(edges::examples(), count, &mut output),
         Some("edges") => fixed(edges::list(), count, &mut output),
         Some("corners") => fixed(corners::list(), count, &mut output),
@@ -78,22 +79,28 @@ fn main() {
 fn usage() -> ! {
     let kinds: Vec<&str> = KINDS.iter().map(|entry| entry.0).collect();
     eprintln!(
-        "usage: cases SEED COUNT [KIND], where KIND is examples, edges, corners, huge or one of"
+        "usage: cases SEED COUNT [KIND], where KIND is examples, edges, corners, drawn, huge or one of"
     );
     eprintln!("  {}", kinds.join(" "));
     exit(2);
 }
 
-fn mixed(seed: u64, count: usize, output: &mut impl Write) -> io::Result<()> {
+/// Fixed cases, and then drawn ones.
+fn begun(seed: u64, count: usize, output: &mut impl Write) -> io::Result<()> {
     let mut list = corners::list();
     if count >= WITH_EDGES {
         list.extend(edges::list());
     }
     let first = list.len().min(count);
     fixed(list, first, output)?;
+    drawn(seed, count - first, output)
+}
+
+/// Cases of all kinds, each by its share.
+fn drawn(seed: u64, count: usize, output: &mut impl Write) -> io::Result<()> {
     let total: u64 = KINDS.iter().map(|entry| entry.1).sum();
     let mut random = Random::new(seed);
-    for _ in first..count {
+    for _ in 0..count {
         let mut at = random.below(total);
         let mut make = KINDS[0].2;
         for &(_, share, this) in &KINDS {
