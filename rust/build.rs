@@ -88,7 +88,8 @@ fn made() -> Result<PathBuf, String> {
         .map_err(|error| format!("tools/archive does not run ({error}): mend that, {hint}"))?;
     if !output.status.success() {
         return Err(format!(
-            "tools/archive failed, as it says above; it needs the Rattle toolchain, `rt` on the PATH, and a tree that can be written: see to that, {hint}"
+            "tools/archive failed, as it says above; it needs the Rattle toolchain, `rt` on the PATH, and a \
+             tree that can be written: see to that, {hint}"
         ));
     }
     let printed = String::from_utf8_lossy(&output.stdout);

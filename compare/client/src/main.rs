@@ -1,6 +1,6 @@
-//! The original's client over the original's packets, and the same client over cablefinch-bytes, at the two ends of one connection
-//! that runs through a relay on loopback. Packets go both ways; a relay that damages a byte makes both ends refuse alike. Then both
-//! decoders are given the same bytes.
+//! The original's client over the original's packets, and the same client over cablefinch-bytes, at the two ends of
+//! one connection that runs through a relay on loopback. Packets go both ways; a relay that damages a byte makes
+//! both ends refuse alike. Then both decoders are given the same bytes.
 
 use bytes::{Bytes, BytesMut};
 use std::sync::Arc;

@@ -1,5 +1,5 @@
-//! Stands in for the generated protobuf modules, of which the original's client names these messages. Field numbers are chosen here:
-//! both clients share them.
+//! Stands in for the generated protobuf modules, of which the original's client names these messages. Field numbers
+//! are chosen here: both clients share them.
 #![allow(missing_docs)]
 
 pub mod misc {
