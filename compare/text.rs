@@ -58,6 +58,18 @@ pub fn read_bytes(word: &[u8]) -> Result<Vec<u8>, BadCase> {
     if word == b"-" {
         return Ok(Vec::new());
     }
+    if !word.contains(&b'+') {
+        return piece(word);
+    }
+    let mut bytes = Vec::new();
+    for word in word.split(|&byte| byte == b'+') {
+        bytes.extend(piece(word)?);
+    }
+    Ok(bytes)
+}
+
+/// Hex digits, or so many zeros.
+fn piece(word: &[u8]) -> Result<Vec<u8>, BadCase> {
     if let Some(count) = zeros(word)? {
         return Ok(vec![0; count]);
     }

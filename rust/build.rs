@@ -79,14 +79,17 @@ fn made() -> Result<PathBuf, String> {
             root.join(source).to_string_lossy()
         );
     }
+    // What it says of its progress goes where this script's does: cargo shows it with -vv, and where
+    // the script fails.
     let output = Command::new(&script)
         .stdin(Stdio::null())
+        .stderr(Stdio::inherit())
         .output()
         .map_err(|error| format!("tools/archive does not run ({error}): mend that, {hint}"))?;
     if !output.status.success() {
         return Err(format!(
-            "tools/archive failed; it needs the Rattle toolchain, `rt` on the PATH: install it, {hint}. It said:\n{}",
-            String::from_utf8_lossy(&output.stderr)
+            "tools/archive failed, as it says above; it needs the Rattle toolchain, `rt` on the PATH, and a \
+             tree that can be written: see to that, {hint}"
         ));
     }
     let printed = String::from_utf8_lossy(&output.stdout);

@@ -10,6 +10,7 @@ mod face;
 
 use bytes::{Bytes, BytesMut};
 use cablefinch::{packet as packets_of_crate, wire as rowsets_of_crate};
+use cablefinch_bytes::bus::packet as packets_over_bytes;
 use oracle::bus::packet::{self, Packet, PacketFlags, PacketType};
 use oracle::guid::Guid;
 use oracle::wire::{self, MaybeRow, UnversionedValue, Value};
@@ -114,8 +115,12 @@ impl Table {
                 format!("{bar:.2} MISSED")
             }
         };
+        let ratio = match ratio.is_nan() {
+            true => "-".to_string(),
+            false => format!("{ratio:.2}"),
+        };
         println!(
-            "| {name} | {size} | {} | {} | {ratio:.2} | {verdict} | {} | {:.2} |",
+            "| {name} | {size} | {} | {} | {ratio} | {verdict} | {} | {:.2} |",
             scaled(rust),
             scaled(port),
             scaled(wrapped),
@@ -125,6 +130,9 @@ impl Table {
 }
 
 fn scaled(nanoseconds: f64) -> String {
+    if nanoseconds.is_nan() {
+        return "-".to_string();
+    }
     if nanoseconds < 10_000.0 {
         format!("{nanoseconds:.1} ns")
     } else if nanoseconds < 10_000_000.0 {
@@ -214,6 +222,7 @@ fn packets(table: &mut Table) {
     let small = || sample(PacketType::Message, 3, 100, true);
     let large = || sample(PacketType::Message, 1_000, 1_024, true);
     let bare = || sample(PacketType::Message, 1_000, 1_024, false);
+    stream(table);
     decoded(table, "Ack decoded", 2_000, None, ack);
     encoded(table, "Ack encoded", 2_000, None, ack);
     decoded(table, "3 parts of 100 B decoded", 1_000, Some(0.97), small);
@@ -227,6 +236,103 @@ fn packets(table: &mut Table) {
         Some(1.0),
         bare,
     );
+}
+
+/// Acks that lie one behind another in one buffer, each taken off its front: what a service does. All
+/// that a side makes is made and dropped within the clock, but for the buffer.
+fn stream(table: &mut Table) {
+    const COUNT: usize = 10_000;
+    let one = sample(PacketType::Ack, 0, 0, true).wire;
+    let wire = one.repeat(COUNT);
+    let each = |nanoseconds: f64| nanoseconds / COUNT as f64;
+    let through_slices = |mut next: Box<dyn FnMut(&[u8]) -> usize + '_>| {
+        let mut done = 0;
+        let mut count = 0;
+        while done < wire.len() {
+            done += next(&wire[done..]);
+            count += 1;
+        }
+        assert!(count == COUNT);
+    };
+    table.line("an Ack in a stream of 10,000", one.len(), None, || {
+        let rust = |mut input: BytesMut| {
+            let mut count = 0;
+            while let Some(packet) = packet::decode(&mut input, LIMIT).unwrap() {
+                drop(black_box(packet));
+                count += 1;
+            }
+            assert!(count == COUNT);
+            input
+        };
+        let port = || {
+            through_slices(Box::new(|rest| {
+                let outcome = black_box(face::decode(rest, LIMIT, &mut []));
+                outcome.count as usize
+            }))
+        };
+        let mut decoder = packets_of_crate::Decoder::new();
+        let mut wrapped = || {
+            through_slices(Box::new(|rest| {
+                let decoded = black_box(decoder.decode(rest, LIMIT).unwrap().unwrap());
+                decoded.consumed
+            }))
+        };
+        Times {
+            rust: each(time(4, || BytesMut::from(&wire[..]), rust)),
+            port: each(time(4, || (), |()| port())),
+            wrapped: each(time(4, || (), |()| wrapped())),
+        }
+    });
+    let name = "an Ack in a stream of 10,000, the crate over BytesMut";
+    table.line(name, one.len(), None, || {
+        let rust = |mut input: BytesMut| {
+            while let Some(packet) = packet::decode(&mut input, LIMIT).unwrap() {
+                drop(black_box(packet));
+            }
+            input
+        };
+        let wrapped = |mut input: BytesMut| {
+            while let Some(packet) = packets_over_bytes::decode(&mut input, LIMIT).unwrap() {
+                drop(black_box(packet));
+            }
+            input
+        };
+        Times {
+            rust: each(time(4, || BytesMut::from(&wire[..]), rust)),
+            port: f64::NAN,
+            wrapped: each(time(4, || BytesMut::from(&wire[..]), wrapped)),
+        }
+    });
+    for (name, count, size, batch) in [
+        (
+            "3 parts of 100 B decoded, the crate over BytesMut",
+            3,
+            100,
+            1_000,
+        ),
+        (
+            "1,000 parts of 1 KiB decoded, the crate over BytesMut",
+            1_000,
+            1_024,
+            4,
+        ),
+    ] {
+        let sample = sample(PacketType::Message, count, size, true);
+        let input = || BytesMut::from(&sample.wire[..]);
+        table.line(name, sample.wire.len(), None, || Times {
+            rust: time(batch, input, |mut input| {
+                drop(black_box(packet::decode(&mut input, LIMIT).unwrap()));
+                input
+            }),
+            port: f64::NAN,
+            wrapped: time(batch, input, |mut input| {
+                drop(black_box(
+                    packets_over_bytes::decode(&mut input, LIMIT).unwrap(),
+                ));
+                input
+            }),
+        });
+    }
 }
 
 fn decoded(
@@ -299,12 +405,8 @@ fn encoded(
             id: cablefinch::Guid(id),
             parts: parts.into(),
         };
-        let mut appended = Vec::new();
-        let mut wrapped = || {
-            appended.clear();
-            packets_of_crate::encode(black_box(&packet), &mut appended).unwrap();
-            appended.len()
-        };
+        let mut encoder = packets_of_crate::Encoder::new();
+        let mut wrapped = || encoder.encode(black_box(&packet)).unwrap().len();
         assert!(wrapped() == sample.wire.len());
         Times {
             rust: time(
@@ -438,7 +540,8 @@ fn rowset(table: &mut Table, name: &str, batch: usize, sample: &[MaybeRow]) {
         .rows()
         .map(|row| row.map(|row| row.values().collect()))
         .collect();
-    let mut appended = Vec::new();
+    let mut encoder = rowsets_of_crate::Encoder::new();
+    assert!(encoder.encode_rowset(&rows).unwrap() == &wire[..]);
     table.line(&format!("{name} encoded"), wire.len(), Some(1.5), || {
         Times {
             rust: time(
@@ -457,13 +560,36 @@ fn rowset(table: &mut Table, name: &str, batch: usize, sample: &[MaybeRow]) {
             wrapped: time(
                 batch,
                 || (),
-                |()| {
-                    appended.clear();
-                    rowsets_of_crate::encode_rowset_into(black_box(&rows), &mut appended).unwrap();
-                },
+                |()| encoder.encode_rowset(black_box(&rows)).unwrap().len(),
             ),
         }
     });
+    table.line(
+        &format!("{name} encoded, tables and output made anew"),
+        wire.len(),
+        None,
+        || Times {
+            rust: time(
+                batch,
+                || (),
+                |()| wire::encode_rowset(black_box(sample)).unwrap(),
+            ),
+            port: time(
+                batch,
+                || (),
+                |()| {
+                    let mut out = vec![0u8; wire.len()];
+                    face::encode_rowset(&wire, &row_table, &value_table, &mut out);
+                    out
+                },
+            ),
+            wrapped: time(
+                batch,
+                || (),
+                |()| rowsets_of_crate::encode_rowset(black_box(&rows)).unwrap(),
+            ),
+        },
+    );
 }
 
 /// Something of each value: its column, and its bits or how many bytes it has.

@@ -8,8 +8,8 @@ use crate::packets::{NULL_SIZE, SIGNATURE, Wire, id_of};
 use crate::rowsets::{NULL, crossing_with};
 use crate::text::{hex, hex_or_dash, words};
 
-const ID: &str = "01000000020000000300000004000000";
-const NO_ID: &str = "00000000000000000000000000000000";
+pub const ID: &str = "01000000020000000300000004000000";
+pub const NO_ID: &str = "00000000000000000000000000000000";
 
 /// Document 01's examples, and the vectors of the judge's self test.
 pub fn examples() -> Vec<String> {
@@ -431,15 +431,15 @@ fn packet_tables(lines: &mut Vec<String>) {
     }
 }
 
-fn rowset(list: &[&[u8]]) -> Vec<u8> {
+pub fn rowset(list: &[&[u8]]) -> Vec<u8> {
     list.concat()
 }
 
-fn word(number: u64) -> [u8; 8] {
+pub fn word(number: u64) -> [u8; 8] {
     number.to_le_bytes()
 }
 
-fn header(id: u16, kind: u8, aggregate: u8, length: u32) -> [u8; 8] {
+pub fn header(id: u16, kind: u8, aggregate: u8, length: u32) -> [u8; 8] {
     let [low, high] = id.to_le_bytes();
     let [a, b, c, d] = length.to_le_bytes();
     [low, high, kind, aggregate, a, b, c, d]

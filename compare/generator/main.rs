@@ -1,8 +1,9 @@
 //! Makes cases for the comparison: `cases SEED COUNT [KIND]`, the same ones for the same words.
 //! Inputs are valid, damaged (with checksums sealed again or not) and cut, around every boundary of
-//! document 01. A long run over all kinds begins with the fixed cases of `edges`. Assumes nothing of
-//! either side that answers.
+//! document 01. A run over all kinds begins with the fixed cases of `corners`, and a long one with those
+//! of `edges` too. Assumes nothing of either side that answers.
 
+mod corners;
 mod edges;
 mod packets;
 mod random;
@@ -42,7 +43,7 @@ const KINDS: [(&str, u64, Make); 18] = [
     ("bad", 2, bad),
 ];
 
-/// A run of so many cases or more begins with the fixed ones.
+/// A run of so many cases or more begins with the edges too. Every run begins with the corners.
 const WITH_EDGES: usize = 100_000;
 
 fn main() {
@@ -56,9 +57,11 @@ fn main() {
     };
     let mut output = BufWriter::with_capacity(1 << 18, io::stdout().lock());
     let written = match words.get(2).map(String::as_str) {
-        None => mixed(seed, count, &mut output),
+        None => begun(seed, count, &mut output),
+        Some("drawn") => drawn(seed, count, &mut output),
         Some("examples") => fixed(edges::examples(), count, &mut output),
         Some("edges") => fixed(edges::list(), count, &mut output),
+        Some("corners") => fixed(corners::list(), count, &mut output),
         Some("huge") => edges::huge(count, &mut output),
         Some(kind) => match KINDS.iter().find(|entry| entry.0 == kind) {
             Some(&(_, _, make)) => one_kind(seed, count, make, &mut output),
@@ -75,22 +78,29 @@ fn main() {
 
 fn usage() -> ! {
     let kinds: Vec<&str> = KINDS.iter().map(|entry| entry.0).collect();
-    eprintln!("usage: cases SEED COUNT [KIND], where KIND is examples, edges, huge or one of");
+    eprintln!(
+        "usage: cases SEED COUNT [KIND], where KIND is examples, edges, corners, drawn, huge or one of"
+    );
     eprintln!("  {}", kinds.join(" "));
     exit(2);
 }
 
-fn mixed(seed: u64, count: usize, output: &mut impl Write) -> io::Result<()> {
-    let edges = if count < WITH_EDGES {
-        Vec::new()
-    } else {
-        edges::list()
-    };
-    let first = edges.len();
-    fixed(edges, first, output)?;
+/// Fixed cases, and then drawn ones.
+fn begun(seed: u64, count: usize, output: &mut impl Write) -> io::Result<()> {
+    let mut list = corners::list();
+    if count >= WITH_EDGES {
+        list.extend(edges::list());
+    }
+    let first = list.len().min(count);
+    fixed(list, first, output)?;
+    drawn(seed, count - first, output)
+}
+
+/// Cases of all kinds, each by its share.
+fn drawn(seed: u64, count: usize, output: &mut impl Write) -> io::Result<()> {
     let total: u64 = KINDS.iter().map(|entry| entry.1).sum();
     let mut random = Random::new(seed);
-    for _ in first..count {
+    for _ in 0..count {
         let mut at = random.below(total);
         let mut make = KINDS[0].2;
         for &(_, share, this) in &KINDS {

@@ -1,5 +1,5 @@
-/* The static library's functions, for C and C++. Document 01's numbers and values come back in a struct of words.
- * What a caller must keep to is in docs/FACE.md. */
+/* The static library's functions, for C and C++. What a caller must keep to is in docs/FACE.md, what the bytes mean in
+ * docs/LAYOUT.md. Every function answers for all bytes, words and numbers; none asks anything of them. */
 #ifndef CABLEFINCH_FACE_H
 #define CABLEFINCH_FACE_H
 
@@ -11,68 +11,188 @@
 extern "C" {
 #endif
 
-enum { CABLEFINCH_ACCEPTED = 0, CABLEFINCH_MORE = 1, CABLEFINCH_REFUSED = 2 };
+/* The version of this interface. The function's name carries it, and every file that includes this header refers to the
+ * function: an archive of another version does not link. */
+#define CABLEFINCH_FACE 2
+uint64_t cablefinch_face_2(void);
+#if defined(__GNUC__)
+static uint64_t (*const cablefinch_face_linked)(void) __attribute__((used)) = cablefinch_face_2;
+#endif
+
+/* Answers. */
+
+enum {
+    CABLEFINCH_ACCEPTED = 0, /* done: `count` and `values` say with what */
+    CABLEFINCH_MORE = 1,     /* the packet is not there in full: call again with more bytes */
+    CABLEFINCH_REFUSED = 2   /* `number` says why; after a refused packet, close the connection */
+};
 
 typedef struct {
-    uint64_t kind;      /* accepted, need-more or refused */
-    uint64_t number;    /* document 01's number of a refusal, else 0 */
-    uint64_t count;     /* bytes consumed or written */
-    uint64_t values[7]; /* the answer's values in document 01's order, 0 where there are fewer */
+    uint64_t kind;      /* one of the three above */
+    uint64_t number;    /* of a refusal: one of the numbers below, else 0 */
+    uint64_t count;     /* bytes consumed or written, or a size, as each function says */
+    uint64_t values[7]; /* as each function says; of a refusal, as its number says; 0 where there are fewer */
 } cablefinch_outcome;
 
-/* Each function that answers an outcome takes the place for it first and hands that pointer back. A slice is a pointer and how
- * many elements it has. */
+/* The numbers of refusals, each with its values in their order. */
+enum {
+    CABLEFINCH_SIGNATURE = 1,                 /* the first word, which is not CABLEFINCH_PACKET_SIGNATURE */
+    CABLEFINCH_UNKNOWN_TYPE = 2,              /* the type found */
+    CABLEFINCH_TOO_MANY_PARTS = 3,            /* how many (2^32-1 for more) */
+    CABLEFINCH_PART_TOO_LARGE = 4,            /* which part, its size (2^32-1 for more) */
+    CABLEFINCH_FIXED_HEADER_CHECKSUM = 5,     /* the stored checksum, the computed one */
+    CABLEFINCH_VARIABLE_HEADER_CHECKSUM = 6,  /* the stored checksum, the computed one */
+    CABLEFINCH_PART_CHECKSUM = 7,             /* which part, the stored checksum, the computed one */
+    CABLEFINCH_MESSAGE_TOO_LARGE = 8,         /* the size as far as it is known, the caller's limit */
+    CABLEFINCH_TRUNCATED = 9,                 /* where bytes are missing, how many */
+    CABLEFINCH_TOO_MANY_ROWS = 10,            /* how many */
+    CABLEFINCH_TOO_MANY_VALUES = 11,          /* which row, how many */
+    CABLEFINCH_VALUE_TOO_LONG = 12,           /* its length (2^32-1 for more) */
+    CABLEFINCH_ROWSET_TOO_LARGE = 13,         /* the size with which the limit is first passed */
+    CABLEFINCH_UNKNOWN_VALUE_TYPE = 14,       /* the type found */
+    CABLEFINCH_TRAILING_BYTES = 15,           /* how many bytes follow the last row */
+    CABLEFINCH_BAD_GUID = 16,                 /* nothing */
+    CABLEFINCH_NO_ROOM = 17,                  /* which table (below), how much is needed, how much was given */
+    CABLEFINCH_BAD_TABLE = 18                 /* which rule (below), where */
+};
 
-/* The checksum, of one stretch or of several: a register begins at 0, each stretch updates it, and finish gives the checksum. */
+/* The first value of CABLEFINCH_NO_ROOM. It is answered only where everything else passes. Parts, rows and values
+ * are counted in whole entries, the output in bytes. */
+enum { CABLEFINCH_PARTS = 1, CABLEFINCH_ROWS = 2, CABLEFINCH_VALUES = 3, CABLEFINCH_OUTPUT = 4 };
+
+/* The first value of CABLEFINCH_BAD_TABLE. */
+enum {
+    CABLEFINCH_NOT_WHOLE = 1, /* the words are no whole entries; at: how many whole ones there are */
+    CABLEFINCH_NO_SUM = 2,    /* the rows' counts do not sum to the values; at: how many rows there are */
+    CABLEFINCH_BAD_ENTRY = 3  /* an entry that cannot be written; at: the first such */
+};
+
+/* Limits and marks. */
+
+#define CABLEFINCH_PACKET_SIGNATURE UINT32_C(0x78616d4f)
+#define CABLEFINCH_MAX_PART_SIZE (UINT64_C(1) << 30)
+#define CABLEFINCH_MAX_PART_COUNT (UINT64_C(1) << 28)
+#define CABLEFINCH_DEFAULT_MAX_PART_COUNT (UINT32_C(1) << 16)
+#define CABLEFINCH_MAX_ROWS UINT64_C(5242880)
+#define CABLEFINCH_MAX_VALUES_PER_ROW UINT64_C(1024)
+#define CABLEFINCH_MAX_VALUE_LENGTH UINT64_C(16777216)
+#define CABLEFINCH_MAX_ROWSET_SIZE (UINT64_C(1) << 30)
+#define CABLEFINCH_NULL UINT64_MAX  /* the length of a null part, the count of a null row */
+#define CABLEFINCH_PART_WORDS 2     /* the words of a part's entry: offset, length */
+#define CABLEFINCH_VALUE_WORDS 5    /* the words of a value's entry, below */
+#define CABLEFINCH_GUID_BYTES 16
+#define CABLEFINCH_GUID_TEXT_BYTES 35 /* the longest text of a GUID */
+
+enum { CABLEFINCH_MESSAGE = 0, CABLEFINCH_ACK = 1, CABLEFINCH_SSL_ACK = 2 };
+
+enum {
+    CABLEFINCH_VALUE_NULL = 2,
+    CABLEFINCH_INT64 = 3,
+    CABLEFINCH_UINT64 = 4,
+    CABLEFINCH_DOUBLE = 5,
+    CABLEFINCH_BOOLEAN = 6,
+    CABLEFINCH_STRING = 16,
+    CABLEFINCH_ANY = 17,
+    CABLEFINCH_COMPOSITE = 18
+};
+
+/* Below, a slice is a pointer and how many elements it has; with no elements the pointer may be NULL. A function
+ * that answers an outcome takes the place for it first and hands that pointer back. Nothing that is lent changes
+ * where the outcome is not accepted; where it is, what lies behind the filled part stays as it was. */
+
+/* The checksum of one stretch of bytes. */
 uint64_t cablefinch_checksum(const uint8_t *bytes, size_t n);
+/* The checksum of several stretches: begin with the register 0, update it with each stretch, and finish it. The
+ * register is no checksum itself. */
 uint64_t cablefinch_update(uint64_t reg, const uint8_t *bytes, size_t n);
 uint64_t cablefinch_finish(uint64_t reg);
 
-/* GUIDs: an id is its sixteen wire bytes, of which a missing one counts as 0.
- * from_parts and from_halves write an id: count is its sixteen bytes. print: count is the text's bytes. parse and parts: values are
- * the four words. halves: the two halves. */
-cablefinch_outcome *cablefinch_guid_from_parts(cablefinch_outcome *o, uint32_t w0, uint32_t w1, uint32_t w2, uint32_t w3,
-                                               uint8_t *out, size_t room);
-cablefinch_outcome *cablefinch_guid_from_halves(cablefinch_outcome *o, uint64_t first, uint64_t second, uint8_t *out,
-                                                size_t room);
-cablefinch_outcome *cablefinch_guid_print(cablefinch_outcome *o, const uint8_t *id, size_t n, uint8_t *out, size_t room);
+/* GUIDs. An id is its CABLEFINCH_GUID_BYTES wire bytes; where fewer are given, the missing ones count as 0. */
+
+/* Writes the id of four words in wire order, or of two halves; count: the bytes written. */
+cablefinch_outcome *cablefinch_guid_from_parts(cablefinch_outcome *o, uint32_t w0, uint32_t w1, uint32_t w2,
+        uint32_t w3, uint8_t *out, size_t room);
+cablefinch_outcome *cablefinch_guid_from_halves(cablefinch_outcome *o, uint64_t first, uint64_t second,
+        uint8_t *out, size_t room);
+/* Writes the id's text; count: its bytes, at most CABLEFINCH_GUID_TEXT_BYTES. No zero byte is written behind it. */
+cablefinch_outcome *cablefinch_guid_print(cablefinch_outcome *o, const uint8_t *id, size_t n, uint8_t *out,
+        size_t room);
+/* Reads an id's text; values: the four words. */
 cablefinch_outcome *cablefinch_guid_parse(cablefinch_outcome *o, const uint8_t *text, size_t n);
+/* values: the four words. */
 cablefinch_outcome *cablefinch_guid_parts(cablefinch_outcome *o, const uint8_t *id, size_t n);
+/* values: the two halves. */
 cablefinch_outcome *cablefinch_guid_halves(cablefinch_outcome *o, const uint8_t *id, size_t n);
+/* Whether all bytes are 0. */
 bool cablefinch_guid_is_null(const uint8_t *id, size_t n);
 
-/* Packets. The part table has two words a part: offset and length; a null part is 0 and 2^64-1. `words` counts words.
- * decode: count is the consumed bytes, values are type, flags, the id's four words, how many parts.
- * encode and encoded_size: count is the written bytes; a type above 2 is refused by 2. part: values are offset and length, the
- * offset 0 where the part is empty. */
-cablefinch_outcome *cablefinch_decode_with(cablefinch_outcome *o, const uint8_t *input, size_t n, uint64_t max_message_size,
-                                           uint32_t max_part_count, uint64_t *parts, size_t words);
-cablefinch_outcome *cablefinch_decode(cablefinch_outcome *o, const uint8_t *input, size_t n, uint64_t max_message_size,
-                                      uint64_t *parts, size_t words);
-cablefinch_outcome *cablefinch_encode(cablefinch_outcome *o, uint64_t type, uint16_t flags, const uint8_t *id, size_t id_size,
-                                      const uint8_t *area, size_t n, const uint64_t *parts, size_t words, uint8_t *out,
-                                      size_t room);
+/* Packets. A part table has CABLEFINCH_PART_WORDS words for each part: where it begins and how long it is; a null
+ * part is 0 and CABLEFINCH_NULL. `words` counts the table's words. Offsets count from the start of the input that
+ * was read, or of the area that is written from. */
+
+/* Reads the packet at the front of the input into the part table. count: the bytes it takes; after
+ * CABLEFINCH_PART_CHECKSUM the bytes of the headers and of the parts up to and including the damaged one, which is
+ * no place to read on from; else 0. values: type, flags, the id's four words, how many parts. At most
+ * max_message_size bytes and max_part_count parts are taken. */
+cablefinch_outcome *cablefinch_decode_with(cablefinch_outcome *o, const uint8_t *input, size_t n,
+        uint64_t max_message_size, uint32_t max_part_count, uint64_t *parts, size_t words);
+/* The same with at most CABLEFINCH_DEFAULT_MAX_PART_COUNT parts. */
+cablefinch_outcome *cablefinch_decode(cablefinch_outcome *o, const uint8_t *input, size_t n,
+        uint64_t max_message_size, uint64_t *parts, size_t words);
+/* Writes a packet whose parts are stretches of the area; count: its bytes. A type above CABLEFINCH_SSL_ACK is
+ * refused with CABLEFINCH_UNKNOWN_TYPE before any other check. */
+cablefinch_outcome *cablefinch_encode(cablefinch_outcome *o, uint64_t type, uint16_t flags, const uint8_t *id,
+        size_t id_size, const uint8_t *area, size_t n, const uint64_t *parts, size_t words, uint8_t *out,
+        size_t room);
+/* count: how many bytes cablefinch_encode would write, however much room there is. */
 cablefinch_outcome *cablefinch_encoded_size(cablefinch_outcome *o, uint64_t type, const uint8_t *area, size_t n,
-                                            const uint64_t *parts, size_t words);
-cablefinch_outcome *cablefinch_validate(cablefinch_outcome *o, const uint8_t *area, size_t n, const uint64_t *parts,
-                                        size_t words);
-cablefinch_outcome *cablefinch_part(cablefinch_outcome *o, const uint8_t *input, size_t n, const uint64_t *parts, size_t words,
-                                    size_t index);
+        const uint64_t *parts, size_t words);
+/* Whether the parts can be written at all. */
+cablefinch_outcome *cablefinch_validate(cablefinch_outcome *o, const uint8_t *area, size_t n,
+        const uint64_t *parts, size_t words);
+/* values: where part `index` begins and how long it is. An empty part, a null part, and an index or an entry that
+ * lies outside are all answered 0 and 0; cablefinch_part_state, below, tells them apart. */
+cablefinch_outcome *cablefinch_part(cablefinch_outcome *o, const uint8_t *input, size_t n,
+        const uint64_t *parts, size_t words, size_t index);
+/* The checksum of part `index`; 0 for a part that is null, empty or outside. */
 uint64_t cablefinch_part_checksum(const uint8_t *input, size_t n, const uint64_t *parts, size_t words, size_t index);
+/* Whether all bits of `other` are set in `flags`. */
 bool cablefinch_contains(uint16_t flags, uint16_t other);
 
-/* Rowsets. The row table has one word a row: its value count, or 2^64-1 for a null row. The value table has five words a value:
- * id, type, aggregate, scalar bits or blob offset, blob length.
- * decode_rowset: values are how many rows and values were read. encode_rowset and rowset_size: count is the written bytes.
- * read_value: values are the entry's five words, count is where the next value begins. */
-cablefinch_outcome *cablefinch_decode_rowset(cablefinch_outcome *o, const uint8_t *input, size_t n, uint64_t *rows,
-                                             size_t row_words, uint64_t *values, size_t value_words);
-cablefinch_outcome *cablefinch_encode_rowset(cablefinch_outcome *o, const uint8_t *area, size_t n, const uint64_t *rows,
-                                             size_t row_words, const uint64_t *values, size_t value_words, uint8_t *out,
-                                             size_t room);
-cablefinch_outcome *cablefinch_rowset_size(cablefinch_outcome *o, const uint8_t *area, size_t n, const uint64_t *rows,
-                                           size_t row_words, const uint64_t *values, size_t value_words);
+enum {
+    CABLEFINCH_PART_HERE = 0,   /* it has bytes, or is empty */
+    CABLEFINCH_PART_NULL = 1,   /* it is null, which is not empty */
+    CABLEFINCH_PART_OUTSIDE = 2 /* the table has no such part, or its entry lies outside the input of n bytes */
+};
+
+/* What part `index` is. Written here in C, so that no proof covers it. */
+static inline int cablefinch_part_state(size_t n, const uint64_t *parts, size_t words, size_t index) {
+    const uint64_t *entry;
+    if (index >= words / CABLEFINCH_PART_WORDS) return CABLEFINCH_PART_OUTSIDE;
+    entry = parts + index * CABLEFINCH_PART_WORDS;
+    if (entry[0] == 0 && entry[1] == CABLEFINCH_NULL) return CABLEFINCH_PART_NULL;
+    return entry[1] > n || entry[0] > n - entry[1] ? CABLEFINCH_PART_OUTSIDE : CABLEFINCH_PART_HERE;
+}
+
+/* Rowsets. A row table has one word for each row: how many values it has, or CABLEFINCH_NULL for a null row, which
+ * is not an empty one. A value table has CABLEFINCH_VALUE_WORDS words for each value: column id, type, aggregate
+ * flag (0 or 1), the word of a scalar or where the bytes begin, and how many bytes there are (0 for a scalar). */
+
+/* Reads the rowset that the input is, all of it; values: how many rows, how many values. */
+cablefinch_outcome *cablefinch_decode_rowset(cablefinch_outcome *o, const uint8_t *input, size_t n,
+        uint64_t *rows, size_t row_words, uint64_t *values, size_t value_words);
+/* Writes the rowset of two tables whose bytes lie in the area; count: its bytes. */
+cablefinch_outcome *cablefinch_encode_rowset(cablefinch_outcome *o, const uint8_t *area, size_t n,
+        const uint64_t *rows, size_t row_words, const uint64_t *values, size_t value_words, uint8_t *out,
+        size_t room);
+/* count: how many bytes cablefinch_encode_rowset would write, however much room there is. */
+cablefinch_outcome *cablefinch_rowset_size(cablefinch_outcome *o, const uint8_t *area, size_t n,
+        const uint64_t *rows, size_t row_words, const uint64_t *values, size_t value_words);
+/* Reads the one value that begins at `at`; values: the words of its entry; count: where the next value begins. */
 cablefinch_outcome *cablefinch_read_value(cablefinch_outcome *o, const uint8_t *input, size_t n, size_t at);
+/* Whether the input is a rowset in the one form that is written: flags and booleans 0 or 1, the length words of
+ * scalars 0, padding zero, at most CABLEFINCH_MAX_ROWSET_SIZE bytes. The length word of a Null value is not looked
+ * at. */
 bool cablefinch_is_plain(const uint8_t *input, size_t n);
 
 #ifdef __cplusplus

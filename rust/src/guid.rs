@@ -1,7 +1,9 @@
 //! GUIDs: sixteen bytes, four little-endian words, printed from the last word to the first.
 
 use crate::sys;
+use std::collections::hash_map::RandomState;
 use std::fmt;
+use std::hash::{BuildHasher, Hasher};
 use std::str::FromStr;
 
 /// A GUID, held as its sixteen wire bytes.
@@ -22,6 +24,16 @@ impl Guid {
     pub fn from_parts(parts: [u32; 4]) -> Self {
         let mut id = Self::NULL;
         sys::guid_from_parts(parts, &mut id.0);
+        id
+    }
+
+    /// The same without a call of the library, which would take as long again as the rest of a packet
+    /// without parts.
+    pub(crate) fn from_wire_words(words: [u32; 4]) -> Self {
+        let mut id = Self::NULL;
+        for (bytes, word) in id.0.chunks_exact_mut(size_of::<u32>()).zip(words) {
+            bytes.copy_from_slice(&word.to_le_bytes());
+        }
         id
     }
 
@@ -46,6 +58,29 @@ impl Guid {
     /// The sixteen wire bytes.
     pub const fn to_bytes(self) -> [u8; 16] {
         self.0
+    }
+
+    /// A fresh id in the original's layout (version 4). Unlikely to come twice, but no secret: it is
+    /// drawn from the seeds that std gives its hash tables.
+    pub fn random() -> Self {
+        let draw = || RandomState::new().build_hasher().finish();
+        let mut id = Self::from_halves(draw(), draw());
+        id.0[6] = id.0[6] & 0x0f | 0x40;
+        id.0[8] = id.0[8] & 0x3f | 0x80;
+        id
+    }
+
+    /// The GUID as a protobuf message of the caller's, which is made from a GUID (by its halves).
+    pub fn to_proto<M: From<Self>>(self) -> M {
+        M::from(self)
+    }
+
+    /// The GUID of a protobuf message of the caller's.
+    pub fn from_proto<'m, M>(message: &'m M) -> Self
+    where
+        Self: From<&'m M>,
+    {
+        Self::from(message)
     }
 
     /// Whether all of it is zero.
@@ -76,7 +111,8 @@ impl fmt::Display for Guid {
         let outcome = sys::guid_print(&self.0, &mut room);
         let text = room.get(..crate::table::count(outcome.count));
         match text.map(std::str::from_utf8) {
-            Some(Ok(text)) if outcome.kind == sys::ACCEPTED => formatter.pad(text),
+            // As the original: no width and no precision is heeded.
+            Some(Ok(text)) if outcome.kind == sys::ACCEPTED => formatter.write_str(text),
             _ => Err(fmt::Error),
         }
     }
@@ -123,7 +159,8 @@ mod tests {
     fn prints_backwards() {
         let id = Guid::from_parts([1, 2, 3, 4]);
         assert_eq!(id.to_string(), "4-3-2-1");
-        assert_eq!(format!("{id:>9}"), "  4-3-2-1");
+        assert_eq!(format!("{id:>9}"), "4-3-2-1");
+        assert_eq!(format!("{id:.2}"), "4-3-2-1");
         assert_eq!(Guid::NULL.to_string(), "0-0-0-0");
         assert_eq!(
             Guid([0xff; 16]).to_string(),
@@ -140,11 +177,40 @@ mod tests {
         ] {
             assert_eq!(id.to_string().parse(), Ok(id));
             assert_eq!(Guid::from_parts(id.parts()), id);
+            assert_eq!(Guid::from_wire_words(id.parts()), id);
             let (first, second) = id.halves();
             assert_eq!(Guid::from_halves(first, second), id);
             assert_eq!(Guid::from(id.to_bytes()), id);
             assert_eq!(id.is_null(), id == Guid::NULL);
         }
+    }
+
+    #[test]
+    fn random_ids_have_the_layout_and_differ() {
+        let ids: std::collections::BTreeSet<Guid> = (0..1000).map(|_| Guid::random()).collect();
+        assert_eq!(ids.len(), 1000);
+        for id in ids {
+            assert_eq!((id.0[6] & 0xf0, id.0[8] & 0xc0), (0x40, 0x80));
+        }
+    }
+
+    #[test]
+    fn protobuf_messages_of_the_callers() {
+        struct Message(u64, u64);
+        impl From<Guid> for Message {
+            fn from(id: Guid) -> Self {
+                let (first, second) = id.halves();
+                Self(first, second)
+            }
+        }
+        impl From<&Message> for Guid {
+            fn from(message: &Message) -> Self {
+                Self::from_halves(message.0, message.1)
+            }
+        }
+        let id = Guid::from_parts([1, 2, 3, 4]);
+        let message: Message = id.to_proto();
+        assert_eq!(Guid::from_proto(&message), id);
     }
 
     #[test]

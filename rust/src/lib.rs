@@ -9,7 +9,7 @@
 //!
 //! Nothing here panics on any input, and no size that a peer declares is allocated before the
 //! bytes that justify it are there. Every refusal has a number, `code()`, the same in all of
-//! Cablefinch.
+//! Cablefinch. After a refused packet, close the connection: [`packet::Refusal`] says why.
 //!
 //! ```
 //! use cablefinch::{Guid, packet, wire};
@@ -25,11 +25,12 @@
 //! let decoded = packet::decode(&buffer, 1 << 20)?.expect("a whole packet is there");
 //! assert_eq!(decoded.packet.id.to_string(), "4-3-2-1");
 //! assert_eq!(decoded.packet.parts.get(0), Some(None));
-//! let part = decoded.packet.parts.get(1).flatten().expect("a part that is not null");
+//! let Some(Some(part)) = decoded.packet.parts.get(1) else {
+//!     return Err("there is no part 1, or it is null".into());
+//! };
 //! let rowset = wire::decode_rowset(part)?;
-//! let mut rows = rowset.rows();
-//! assert_eq!(rows.next(), Some(None));
-//! assert_eq!(rows.next().flatten().and_then(|row| row.column(0)), Some(term));
+//! let rows: Vec<_> = rowset.rows().collect();
+//! assert!(matches!(rows[..], [None, Some(row)] if row.column(0) == Some(term)));
 //! # Ok::<(), Box<dyn std::error::Error>>(())
 //! ```
 

@@ -3,7 +3,7 @@
 //! What `docs/FACE.md` asks of a caller, and why every call here keeps to it:
 //!
 //! - a slice is lent as its own pointer and length, so it is valid for that many elements, is not
-//!   null where it is empty, is aligned, and is no larger than an object may be;
+//!   dangling where it has elements, is aligned, and is no larger than an object may be;
 //! - it has been written, as all that a `&[T]` or `&mut [T]` of integers names has;
 //! - what is written is a `&mut` slice or the outcome, a local of the function, and overlaps
 //!   nothing else that is lent, nor does another thread touch it, by the rule of `&mut`; what is
@@ -31,6 +31,7 @@ pub(crate) const MORE: u64 = 1;
 mod raw {
     use super::Outcome;
     unsafe extern "C" {
+        pub(super) fn cablefinch_face_2() -> u64;
         pub(super) fn cablefinch_checksum(bytes: *const u8, n: usize) -> u64;
         pub(super) fn cablefinch_update(register: u64, bytes: *const u8, n: usize) -> u64;
         pub(super) fn cablefinch_finish(register: u64) -> u64;
@@ -77,6 +78,11 @@ macro_rules! ask {
         outcome
     }};
 }
+
+/// Named by every program over this crate, called by none: an archive of another version of the
+/// interface lacks the function, so that the program does not link.
+#[used]
+static VERSION: unsafe extern "C" fn() -> u64 = raw::cablefinch_face_2;
 
 pub(crate) fn checksum(bytes: &[u8]) -> u64 {
     // SAFETY: a slice's pointer and length, only read.

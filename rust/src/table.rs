@@ -1,12 +1,14 @@
 //! Tables of words that are kept between calls and grow when they are too short.
 
-/// Makes `table` at least `words` long; false where there is no memory for it.
-pub(crate) fn grow(table: &mut Vec<u64>, words: usize) -> bool {
-    let more = words.saturating_sub(table.len());
+use std::ops::Range;
+
+/// Makes `table` at least `length` long; false where there is no memory for it.
+pub(crate) fn grow<T: Copy + Default>(table: &mut Vec<T>, length: usize) -> bool {
+    let more = length.saturating_sub(table.len());
     if table.try_reserve(more).is_err() {
         return false;
     }
-    table.resize(words.max(table.len()), 0);
+    table.resize(length.max(table.len()), T::default());
     true
 }
 
@@ -19,9 +21,17 @@ pub(crate) fn count(number: u64) -> usize {
 ///
 /// A table that the library filled names stretches of the input only, so the empty stretch stands
 /// for a case that does not arise.
-pub(crate) fn stretch(bytes: &[u8], offset: u64, length: u64) -> &[u8] {
-    let (start, length) = (count(offset), count(length));
-    bytes
-        .get(start..start.saturating_add(length))
-        .unwrap_or_default()
+pub(crate) fn stretch(bytes: &[u8], range: Range<usize>) -> &[u8] {
+    bytes.get(range).unwrap_or_default()
+}
+
+/// Gives back what `table` has beyond `length` elements; a later call may grow it again.
+pub(crate) fn shrink<T>(table: &mut Vec<T>, length: usize) {
+    table.truncate(length);
+    table.shrink_to(length);
+}
+
+/// The bytes of memory that a table holds.
+pub(crate) fn memory<T>(table: &Vec<T>) -> usize {
+    table.capacity().saturating_mul(size_of::<T>())
 }

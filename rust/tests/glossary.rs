@@ -1,5 +1,5 @@
-//! Fisheries and dentistry: a lookup of glossaries by event, some of which have none. A null row
-//! that was folded away would slide each later glossary under its neighbour's title.
+//! Fisheries and dentistry: a lookup of glossaries by event, some of which have none. If a null row
+//! were dropped, every later glossary would appear under the wrong title.
 
 use cablefinch::wire::{self, Decoder, UnversionedValue, Value};
 

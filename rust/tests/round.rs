@@ -148,8 +148,8 @@ fn any_bytes_have_an_answer() {
         match decoder.decode_with(&bytes, draw.below(400), draw.below(40) as u32) {
             Ok(Some(decoded)) => {
                 assert!(decoded.consumed <= bytes.len());
-                for part in decoded.packet.parts.iter().flatten() {
-                    checksum(part);
+                for part in &decoded.packet.parts {
+                    checksum(part.unwrap_or_default());
                 }
             }
             Ok(None) => {}
@@ -198,36 +198,4 @@ fn one_byte_at_a_time() {
         heard += 1;
     }
     assert_eq!((heard, buffer.len()), (sent.len(), 0));
-}
-
-#[test]
-fn a_connection_goes_on_after_a_damaged_last_part() {
-    let parts = [Some(&b"header"[..]), Some(b"a term")];
-    let packet = Packet::message(Guid::NULL, &parts, PacketFlags::NONE);
-    let mut stream = Vec::new();
-    packet::encode(&packet, &mut stream).unwrap();
-    let last = stream.len() - 1;
-    stream[last] ^= 0x20;
-    packet::encode(&packet, &mut stream).unwrap();
-
-    let mut decoder = packet::Decoder::new();
-    let mut buffer = Vec::new();
-    let mut heard = Vec::new();
-    for byte in stream {
-        buffer.push(byte);
-        let consumed = match decoder.decode(&buffer, 1 << 16) {
-            Ok(None) => continue,
-            Ok(Some(decoded)) => {
-                heard.push(0);
-                decoded.consumed
-            }
-            Err(refusal) => {
-                heard.push(refusal.code());
-                refusal.consumed
-            }
-        };
-        buffer.drain(..consumed);
-    }
-    assert_eq!(heard, [7, 0]);
-    assert!(buffer.is_empty());
 }

@@ -1,6 +1,8 @@
 //! Answers the comparison's cases with the port: cases on standard input, one a line, and one answer
 //! line for each, by compare/PROTOCOL.md. The port is called and its outcome written down; lent memory
 //! is filled with 0xa5 before each call, and a byte changed that should not be is told as `touched`.
+//! Inputs and outputs lie at addresses of every remainder by eight, and tables that are read into have
+//! words beyond their whole entries, as the lengths of the case give it.
 
 mod face;
 #[allow(dead_code)]
@@ -10,11 +12,12 @@ mod text;
 use face::Outcome;
 use std::fmt::Write as _;
 use std::io;
-use text::{
-    BadCase, answer_lines, hex_or_dash, narrow, number, read_bytes, read_id, read_words, words,
-};
+use text::{BadCase, answer_lines, hex_or_dash, narrow, number, read_id, read_words, words};
 
 const NULL: u64 = u64::MAX;
+/// The words of a part and of a value in a table.
+const PART: u64 = 2;
+const VALUE: u64 = 5;
 const FILL: u8 = 0xa5;
 const FILL_WORD: u64 = u64::from_ne_bytes([FILL; 8]);
 
@@ -29,7 +32,13 @@ fn answer(line: &[u8]) -> Answer {
     match (case[0], &case[1..]) {
         (b"crc", stretches) if !stretches.is_empty() => crc(stretches),
         (b"checksum", [bytes]) => Ok(format!("ok {:016x}", face::checksum(&read_bytes(bytes)?))),
+        (b"update", [register, bytes]) => {
+            let register = face::update(number(register)?, &read_bytes(bytes)?);
+            Ok(format!("ok {register:016x}"))
+        }
         (b"guid-print", [id]) => guid_print(&read_id(id)?),
+        (b"guid-text", [id, room]) => guid_text(&read_id(id)?, number(room)?),
+        (b"guid-bytes", [id, room]) => guid_bytes(&read_id(id)?, number(room)?),
         (b"guid-read", [text]) => guid_read(&read_bytes(text)?),
         (b"guid-parts", [id]) => guid_parts(&read_id(id)?),
         (b"packet", [limit, ceiling, room, bytes]) => {
@@ -54,6 +63,19 @@ fn answer(line: &[u8]) -> Answer {
                 &read_bytes(area)?,
                 &read_words(parts)?,
             )
+        }
+        (b"typed-write", [kind, room, area, parts]) => packet_write(
+            number(kind)?,
+            0,
+            &[0; 16],
+            number(room)?,
+            &read_bytes(area)?,
+            &read_words(parts)?,
+        ),
+        (b"typed-size", [kind, area, parts]) => {
+            let kind = number(kind)?;
+            let outcome = face::encoded_size(kind, &read_bytes(area)?, &read_words(parts)?);
+            Ok(or_refusal(&outcome, || format!("ok {}", outcome.count)))
         }
         (b"packet-size", [kind, flags, id, area, parts]) => {
             let (kind, _, _) = header(kind, flags, id)?;
@@ -97,6 +119,52 @@ fn answer(line: &[u8]) -> Answer {
 }
 
 // The words of a case.
+
+/// Bytes that begin so many bytes behind a multiple of eight as the count of them does, as far as
+/// they are no more than `MOVED`.
+struct Placed {
+    memory: Vec<u8>,
+    start: usize,
+}
+
+const MOVED: usize = 1 << 20;
+
+impl Placed {
+    fn of(bytes: Vec<u8>) -> Self {
+        if bytes.len() > MOVED {
+            let (memory, start) = (bytes, 0);
+            return Self { memory, start };
+        }
+        let mut memory = Vec::with_capacity(bytes.len() + 8);
+        let address = memory.as_ptr() as usize;
+        let start = (bytes.len() % 8 + 8 - address % 8) % 8;
+        memory.resize(start, FILL);
+        memory.extend(bytes);
+        Self { memory, start }
+    }
+
+    fn filled(count: usize) -> Self {
+        Self::of(vec![FILL; count])
+    }
+}
+
+impl std::ops::Deref for Placed {
+    type Target = [u8];
+
+    fn deref(&self) -> &[u8] {
+        &self.memory[self.start..]
+    }
+}
+
+impl std::ops::DerefMut for Placed {
+    fn deref_mut(&mut self) -> &mut [u8] {
+        &mut self.memory[self.start..]
+    }
+}
+
+fn read_bytes(word: &[u8]) -> Result<Placed, BadCase> {
+    text::read_bytes(word).map(Placed::of)
+}
 
 fn header(kind: &[u8], flags: &[u8], id: &[u8]) -> Result<(u64, u16, [u8; 16]), BadCase> {
     Ok((
@@ -184,6 +252,30 @@ fn guid_print(id: &[u8]) -> Answer {
     ))
 }
 
+fn guid_text(id: &[u8], room: u64) -> Answer {
+    let mut out = Placed::filled(room.min(64) as usize);
+    let outcome = face::guid_print(id, &mut out);
+    if outcome.kind != face::ACCEPTED {
+        return Ok(mark(refusal(&outcome, false), bytes_kept(&out)));
+    }
+    let (text, rest) = out.split_at(outcome.count as usize);
+    let text = format!("ok {} {}", outcome.count, String::from_utf8_lossy(text));
+    Ok(mark(text, bytes_kept(rest)))
+}
+
+/// The id written from its parts; from its halves the same must come.
+fn guid_bytes(id: &[u8], room: u64) -> Answer {
+    let [a, b, c, d, ..] = face::guid_parts(id).values;
+    let [first, second, ..] = face::guid_halves(id).values;
+    let mut out = Placed::filled(room.min(64) as usize);
+    let outcome = face::guid_from_parts([a, b, c, d].map(|word| word as u32), &mut out);
+    let mut other = Placed::filled(room.min(64) as usize);
+    let otherwise = face::guid_from_halves(first, second, &mut other);
+    assert!(outcome.count == otherwise.count && outcome.values == otherwise.values);
+    assert!(outcome.number == otherwise.number && out[..] == other[..]);
+    Ok(written(&outcome, &out))
+}
+
 fn wire(words: &[u64]) -> Vec<u8> {
     words
         .iter()
@@ -222,8 +314,13 @@ fn guid_parts(id: &[u8]) -> Answer {
 // Packets.
 
 fn packet(limit: u64, ceiling: Option<u32>, room: u64, input: &[u8]) -> Answer {
-    // Each part has twelve bytes of headers, so more room than that cannot matter.
-    let mut parts = table(room.saturating_mul(2), 2 * (input.len() / 12 + 8));
+    // Each part has twelve bytes of headers, so more room than that cannot matter. A word more makes
+    // no whole entry.
+    let mut parts = table(
+        room.saturating_mul(PART),
+        PART as usize * (input.len() / 12 + 8),
+    );
+    parts.extend(vec![FILL_WORD; input.len() % PART as usize]);
     let outcome = match ceiling {
         Some(ceiling) => face::decode_with(input, limit, ceiling, &mut parts),
         None => face::decode(input, limit, &mut parts),
@@ -238,8 +335,8 @@ fn packet(limit: u64, ceiling: Option<u32>, room: u64, input: &[u8]) -> Answer {
     let [kind, flags, .., count] = outcome.values;
     let id = hex_or_dash(&wire(&outcome.values[2..6]));
     let mut text = format!("ok {} {kind} {flags} {id} {count}", outcome.count);
-    let (entries, rest) = parts.split_at(2 * count as usize);
-    for entry in entries.chunks_exact(2) {
+    let (entries, rest) = parts.split_at((PART * count) as usize);
+    for entry in entries.chunks_exact(PART as usize) {
         match entry {
             [0, NULL] => text.push_str(" null"),
             entry => {
@@ -272,9 +369,9 @@ fn packet_write(kind: u64, flags: u16, id: &[u8], room: u64, area: &[u8], parts:
     let most = most(
         area,
         64 + 6 * parts.len() as u64,
-        parts.iter().skip(1).step_by(2).copied(),
+        parts.iter().skip(1).step_by(PART as usize).copied(),
     );
-    let mut out = vec![FILL; room.min(most) as usize];
+    let mut out = Placed::filled(room.min(most) as usize);
     let outcome = face::encode(kind, flags, id, area, parts, &mut out);
     Ok(written(&outcome, &out))
 }
@@ -295,7 +392,8 @@ fn rowset(rows: u64, values: u64, input: &[u8]) -> Answer {
     // Each row and each value has eight bytes, so more room than that cannot matter.
     let most = input.len() / 8 + 8;
     let mut rows = table(rows, most);
-    let mut values = table(values.saturating_mul(5), 5 * most);
+    let mut values = table(values.saturating_mul(VALUE), VALUE as usize * most);
+    values.extend(vec![FILL_WORD; input.len() % VALUE as usize]);
     let outcome = face::decode_rowset(input, &mut rows, &mut values);
     if outcome.kind != face::ACCEPTED {
         let kept = words_kept(&rows) && words_kept(&values);
@@ -303,7 +401,7 @@ fn rowset(rows: u64, values: u64, input: &[u8]) -> Answer {
     }
     let [row_count, value_count, ..] = outcome.values;
     let (rows, rows_rest) = rows.split_at(row_count as usize);
-    let (values, values_rest) = values.split_at(5 * value_count as usize);
+    let (values, values_rest) = values.split_at((VALUE * value_count) as usize);
     let text = format!(
         "ok {row_count} {value_count} {} {}",
         words(rows),
@@ -314,8 +412,12 @@ fn rowset(rows: u64, values: u64, input: &[u8]) -> Answer {
 
 fn rowset_write(room: u64, area: &[u8], rows: &[u64], values: &[u64]) -> Answer {
     let fixed = 64 + 8 * rows.len() as u64 + 8 * values.len() as u64;
-    let most = most(area, fixed, values.iter().skip(4).step_by(5).copied());
-    let mut out = vec![FILL; room.min(most) as usize];
+    let most = most(
+        area,
+        fixed,
+        values.iter().skip(4).step_by(VALUE as usize).copied(),
+    );
+    let mut out = Placed::filled(room.min(most) as usize);
     let outcome = face::encode_rowset(area, rows, values, &mut out);
     Ok(written(&outcome, &out))
 }

@@ -93,6 +93,30 @@ fn answer(line: &[u8]) -> Outcome {
             read_bytes(bytes)?;
             Err(Without::Skip)
         }
+        // What only the exported functions have.
+        (b"update", [register, bytes]) => {
+            number(register)?;
+            read_bytes(bytes)?;
+            Err(Without::Skip)
+        }
+        (b"guid-text" | b"guid-bytes", [id, room]) => {
+            guid(id)?;
+            number(room)?;
+            Err(Without::Skip)
+        }
+        (b"typed-write", [kind, room, area, parts]) => {
+            number(kind)?;
+            number(room)?;
+            read_bytes(area)?;
+            read_words(parts)?;
+            Err(Without::Skip)
+        }
+        (b"typed-size", [kind, area, parts]) => {
+            number(kind)?;
+            read_bytes(area)?;
+            read_words(parts)?;
+            Err(Without::Skip)
+        }
         _ => Err(Without::BadCase),
     }
 }

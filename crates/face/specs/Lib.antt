@@ -1,2 +1,3 @@
 -- What each exported function promises.
 pub mod Statement
+pub mod Version

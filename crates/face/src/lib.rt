@@ -4,3 +4,4 @@ pub mod checksums;
 pub mod ids;
 pub mod packets;
 pub mod rowsets;
+pub mod version;

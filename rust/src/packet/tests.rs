@@ -1,0 +1,112 @@
+use super::*;
+
+fn message(parts: &[Part<'_>]) -> Vec<u8> {
+    let mut out = Vec::new();
+    let packet = Packet::message(
+        Guid::from_parts([1, 2, 3, 4]),
+        parts.to_vec(),
+        PacketFlags(9),
+    );
+    assert_eq!(encode(&packet, &mut out), Ok(()));
+    assert_eq!(encoded_size(&packet), Ok(out.len()));
+    out
+}
+
+#[test]
+fn null_and_empty_parts_stay_apart() {
+    let bytes = message(&[None, Some(b""), Some(b"x"), Some(b"yz")]);
+    let decoded = decode(&bytes, 1 << 20).unwrap().unwrap();
+    assert_eq!(decoded.consumed, bytes.len());
+    let parts: Vec<Part<'_>> = decoded.packet.parts.iter().collect();
+    assert_eq!(parts, [None, Some(&b""[..]), Some(b"x"), Some(b"yz")]);
+    assert_eq!(decoded.packet.parts.get(4), None);
+    assert_eq!(decoded.packet.parts.get(usize::MAX), None);
+}
+
+#[test]
+fn every_strict_prefix_needs_more() {
+    let bytes = message(&[Some(b"terms"), None]);
+    for cut in 0..bytes.len() {
+        assert_eq!(decode(&bytes[..cut], 1 << 20), Ok(None));
+    }
+}
+
+#[test]
+fn a_decoder_grows_and_is_used_again() {
+    let mut decoder = Decoder::new();
+    for n in [0, 1, 16, 17, 1000, 3, 0] {
+        let parts = vec![Some(&b"part"[..]); n];
+        let bytes = message(&parts);
+        let decoded = decoder.decode(&bytes, 1 << 20).unwrap().unwrap();
+        assert_eq!(decoded.packet.parts.len(), n);
+        assert_eq!(decoded.packet.parts, Parts::from(parts));
+    }
+}
+
+#[test]
+fn damage_names_its_part() {
+    let mut bytes = message(&[Some(b"one"), Some(b"two"), Some(b"three")]);
+    let at = bytes.len() - 6;
+    bytes[at] ^= 1;
+    let refusal = decode(&bytes, 1 << 20).unwrap_err();
+    assert_eq!((refusal.code(), refusal.consumed), (7, bytes.len() - 5));
+    assert!(refusal.to_string().starts_with("part 1 checksum mismatch"));
+    assert!(matches!(
+        PacketError::from(refusal),
+        PacketError::PartChecksum { index: 1, .. }
+    ));
+}
+
+#[test]
+fn refusals_have_their_numbers() {
+    let bytes = message(&[Some(b"terms")]);
+    let with = |at: usize, byte: u8| {
+        let mut bytes = bytes.clone();
+        bytes[at] = byte;
+        decode(&bytes, 1 << 20).unwrap_err().code()
+    };
+    assert_eq!(with(0, 0), 1);
+    assert_eq!(with(4, 3), 2);
+    assert_eq!(with(6, 0), 5);
+    assert_eq!(with(36, 0), 6);
+    let limited = decode(&bytes, 60).unwrap_err();
+    assert_eq!(
+        limited.error,
+        PacketError::MessageTooLarge {
+            size: 61,
+            limit: 60
+        }
+    );
+    assert_eq!(decode_with(&bytes, 61, 0).unwrap_err().code(), 3);
+    assert!(decode_with(&bytes, 61, 1).unwrap().is_some());
+}
+
+#[test]
+fn a_decoded_packet_is_written_again() {
+    let bytes = message(&[None, Some(b"header"), Some(b"")]);
+    let packet = decode(&bytes, 1 << 20).unwrap().unwrap().packet;
+    let mut out = b"before".to_vec();
+    assert_eq!(validate(&packet), Ok(()));
+    assert_eq!(encode(&packet, &mut out), Ok(()));
+    assert_eq!(out, [b"before", &bytes[..]].concat());
+    assert_eq!(part_checksum(None), 0);
+    assert_eq!(part_checksum(Some(&[1])), 0xe543_2797_6592_7881);
+}
+
+#[test]
+fn parts_outlive_the_packet() {
+    let bytes = message(&[Some(b"kept")]);
+    let kept = {
+        let decoded = decode(&bytes, 1 << 20).unwrap().unwrap();
+        decoded.packet.parts.get(0).flatten()
+    };
+    assert_eq!(kept, Some(&b"kept"[..]));
+}
+
+#[test]
+fn flags() {
+    let both = PacketFlags(3);
+    assert!(both.contains(PacketFlags::REQUEST_ACKNOWLEDGEMENT));
+    assert!(both.contains(PacketFlags::NONE));
+    assert!(!PacketFlags::NONE.contains(both));
+}

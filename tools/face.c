@@ -1,0 +1,74 @@
+/* Calls every function of face.h with NULL for slices of no elements, and tells parts apart. Exit status 1 where an
+ * answer is not the one of an empty slice. */
+#include "face.h"
+
+#include <stdio.h>
+
+static int failures;
+
+static void expect(const char *what, int holds) {
+    if (!holds) {
+        printf("face.c: %s\n", what);
+        failures++;
+    }
+}
+
+#define IS(name, expected_kind, expected_number)                                                                      \
+    expect(#name, o.kind == (uint64_t)(expected_kind) && o.number == (uint64_t)(expected_number))
+
+int main(void) {
+    cablefinch_outcome o;
+    uint64_t parts[3 * CABLEFINCH_PART_WORDS] = {0, CABLEFINCH_NULL, 4, 0, 2, 3};
+    const uint8_t input[5] = {1, 2, 3, 4, 5};
+
+    expect("version", cablefinch_face_2() == CABLEFINCH_FACE);
+    expect("checksum", cablefinch_checksum(NULL, 0) == 0);
+    expect("update", cablefinch_update(7, NULL, 0) == 7);
+    expect("finish", cablefinch_finish(0) == 0);
+    cablefinch_guid_from_parts(&o, 1, 2, 3, 4, NULL, 0);
+    IS(guid_from_parts, CABLEFINCH_REFUSED, CABLEFINCH_NO_ROOM);
+    cablefinch_guid_from_halves(&o, 1, 2, NULL, 0);
+    IS(guid_from_halves, CABLEFINCH_REFUSED, CABLEFINCH_NO_ROOM);
+    cablefinch_guid_print(&o, NULL, 0, NULL, 0);
+    IS(guid_print, CABLEFINCH_REFUSED, CABLEFINCH_NO_ROOM);
+    cablefinch_guid_parse(&o, NULL, 0);
+    IS(guid_parse, CABLEFINCH_REFUSED, CABLEFINCH_BAD_GUID);
+    cablefinch_guid_parts(&o, NULL, 0);
+    IS(guid_parts, CABLEFINCH_ACCEPTED, 0);
+    cablefinch_guid_halves(&o, NULL, 0);
+    IS(guid_halves, CABLEFINCH_ACCEPTED, 0);
+    expect("guid_is_null", cablefinch_guid_is_null(NULL, 0));
+    cablefinch_decode_with(&o, NULL, 0, 100, 1, NULL, 0);
+    IS(decode_with, CABLEFINCH_MORE, 0);
+    cablefinch_decode(&o, NULL, 0, 100, NULL, 0);
+    IS(decode, CABLEFINCH_MORE, 0);
+    cablefinch_encode(&o, CABLEFINCH_ACK, 0, NULL, 0, NULL, 0, NULL, 0, NULL, 0);
+    IS(encode, CABLEFINCH_REFUSED, CABLEFINCH_NO_ROOM);
+    cablefinch_encoded_size(&o, CABLEFINCH_ACK, NULL, 0, NULL, 0);
+    IS(encoded_size, CABLEFINCH_ACCEPTED, 0);
+    cablefinch_validate(&o, NULL, 0, NULL, 0);
+    IS(validate, CABLEFINCH_ACCEPTED, 0);
+    cablefinch_part(&o, NULL, 0, NULL, 0, 0);
+    IS(part, CABLEFINCH_ACCEPTED, 0);
+    expect("part_checksum", cablefinch_part_checksum(NULL, 0, NULL, 0, 0) == 0);
+    expect("contains", cablefinch_contains(3, 1) && !cablefinch_contains(1, 3));
+    cablefinch_decode_rowset(&o, NULL, 0, NULL, 0, NULL, 0);
+    IS(decode_rowset, CABLEFINCH_REFUSED, CABLEFINCH_TRUNCATED);
+    cablefinch_encode_rowset(&o, NULL, 0, NULL, 0, NULL, 0, NULL, 0);
+    IS(encode_rowset, CABLEFINCH_REFUSED, CABLEFINCH_NO_ROOM);
+    cablefinch_rowset_size(&o, NULL, 0, NULL, 0, NULL, 0);
+    IS(rowset_size, CABLEFINCH_ACCEPTED, 0);
+    cablefinch_read_value(&o, NULL, 0, 0);
+    IS(read_value, CABLEFINCH_REFUSED, CABLEFINCH_TRUNCATED);
+    expect("is_plain", !cablefinch_is_plain(NULL, 0));
+
+    expect("null part", cablefinch_part_state(sizeof input, parts, 6, 0) == CABLEFINCH_PART_NULL);
+    expect("empty part", cablefinch_part_state(sizeof input, parts, 6, 1) == CABLEFINCH_PART_HERE);
+    expect("part", cablefinch_part_state(sizeof input, parts, 6, 2) == CABLEFINCH_PART_HERE);
+    expect("entry outside", cablefinch_part_state(4, parts, 6, 2) == CABLEFINCH_PART_OUTSIDE);
+    expect("no such part", cablefinch_part_state(sizeof input, parts, 6, 3) == CABLEFINCH_PART_OUTSIDE);
+    expect("no table", cablefinch_part_state(0, NULL, 0, 0) == CABLEFINCH_PART_OUTSIDE);
+    cablefinch_part(&o, input, sizeof input, parts, 6, 2);
+    expect("a part lies where its entry says", o.values[0] == 2 && o.values[1] == 3);
+    return failures != 0;
+}
