@@ -1,5 +1,5 @@
 -- A refusal or need-more changes no lent table or buffer, and an acceptance nothing past its entries. Assumes nothing.
-use mathlib.Core.Path.{_≡_, refl, _∙_, ap}
+use mathlib.Core.Path.{_≡_, refl, sym, _∙_, ap}
 use mathlib.Core.Bool.{Bool, true, false}
 use mathlib.Core.List.{List, [], _∷_}
 use Prim.Native.Nat.{ℕ, _*_}
@@ -59,10 +59,5 @@ rowset-output-keeps area rows values out refusal after told = encodes-told area 
 
 -- A text that has not the room leaves the buffer.
 pub text-keeps : TextKeeps
-text-keeps g before needed given after told = told .1 ∙ by-room (length before <? length (textOf g)) refl (told .0)
-  where
-    by-room : (short : Bool) → (length before <? length (textOf g)) ≡ short
-        → refuse 17 (4 ∷ needed ∷ given ∷ []) ≡ pick short (refuse 17 (4 ∷ length (textOf g) ∷ length before ∷ [])) (accepted (length (textOf g)) [])
-        → fitted (textOf g) before ≡ before
-    by-room true is answer = fitted-short (textOf g) before (ltb-true (length before) (length (textOf g)) is)
-    by-room false is answer = absurd (refused-not-accepted 17 (4 ∷ needed ∷ given ∷ []) 0 (length (textOf g)) [] answer)
+text-keeps g before short after told =
+    told .1 ∙ ap (λ (a : Answer). afterwards a (textOf g) before) (sym (told .0))

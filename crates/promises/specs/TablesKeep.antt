@@ -5,6 +5,7 @@ use mathlib.Core.List.{List}
 use mathlib.Core.Path.{_≡_}
 use lib.ListN.{drop}
 use Rattle.words.specs.Answer.{NotTaken}
+use Rattle.words.specs.declared.outcome.NoRoom.{NoRoom}
 use Rattle.guid.specs.declared.Guid.{Guid}
 use Rattle.guid.specs.declared.Printed.the-variants as printed
 use Rattle.guid.specs.Statement.{Prints}
@@ -53,4 +54,6 @@ RowsetOutputKeeps =
 
 -- the printer of GUIDs
 abbrev pub TextKeeps : Type 0
-TextKeeps = (g : Guid) (before : List ℕ) (needed given : ℕ) (after : List ℕ) → Prints g before (printed.NoRoom needed given) after → after ≡ before
+TextKeeps =
+    (g : Guid) (before : List ℕ) (short : NoRoom) (after : List ℕ)
+    → Prints g before (printed.Refused short) after → after ≡ before

@@ -1,5 +1,27 @@
 // The words of a case, by compare/PROTOCOL.md. Every function takes every text: what is no number, hex or table reads as something.
+ghost use mathlib.Core.Path.{_≡_};
 ghost use Prim.Native.Nat.{_<_};
+ghost use lib.ListN.{length};
+
+// What is lent, by functions that tell their arrays' lengths alone, so that no caller's proof looks into them.
+
+pub(crate) fn output() -> [u8; 8_192]
+    ensures { λ r. ⌜ 8192 ≡ length r ⌝ }
+{
+    [0xa5; 8_192]
+}
+
+pub(crate) fn table() -> [u64; 512]
+    ensures { λ r. ⌜ 512 ≡ length r ⌝ }
+{
+    [0xa5a5_a5a5_a5a5_a5a5; 512]
+}
+
+pub(crate) fn values_table() -> [u64; 2_560]
+    ensures { λ r. ⌜ 2560 ≡ length r ⌝ }
+{
+    [0xa5a5_a5a5_a5a5_a5a5; 2_560]
+}
 
 // The first place from `from` on where `byte` stands, or the end.
 pub(crate) fn find(text: &[u8], from: usize, byte: u8) -> usize {
@@ -15,9 +37,13 @@ pub(crate) fn find(text: &[u8], from: usize, byte: u8) -> usize {
 
 // The stretch of `text` from `from` to `end`; nothing where there is none.
 pub(crate) fn cut<'a>(text: &'a [u8], from: usize, end: usize) -> &'a [u8] {
-    let length = if from < end { end - from } else { 0 };
-    let stretch = [from as u64, length as u64];
-    packet_table::part(text, &stretch, 0)
+    if end < from {
+        return &text[..0];
+    }
+    if text.len() < end {
+        return &text[..0];
+    }
+    &text[from..end]
 }
 
 fn next_word(line: &[u8], from: usize) -> usize {
@@ -141,4 +167,12 @@ pub(crate) fn words_into(out: &mut [u64], text: &[u8]) -> usize {
         at = end + 1;
     }
     i
+}
+
+// The first `count` words of a table, or all of it where it is shorter.
+pub(crate) fn front<'a>(table: &'a [u64], count: usize) -> &'a [u64] {
+    if table.len() < count {
+        return table;
+    }
+    &table[..count]
 }

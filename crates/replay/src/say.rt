@@ -1,7 +1,8 @@
 // The words of an answer, by compare/PROTOCOL.md, written to standard output.
 use libc::STDOUT_FILENO;
-use packet::PacketError;
-use wire_value::error::WireError;
+use words::outcome::ACCEPTED;
+use words::outcome::MORE;
+use words::outcome::Outcome;
 
 pub(crate) fn text(bytes: &[u8]) {
     io::write_all(STDOUT_FILENO, bytes);
@@ -59,7 +60,7 @@ pub(crate) fn words(table: &[u64], count: usize) {
 }
 
 fn part(offset: u64, length: u64) {
-    if length == 0xffff_ffff_ffff_ffff {
+    if length == packet::NULL_LENGTH {
         text(b" null");
         return;
     }
@@ -71,11 +72,11 @@ fn part(offset: u64, length: u64) {
 // The first `count` entries of a part table.
 pub(crate) fn parts(table: &[u64], count: usize) {
     let mut i = 0;
-    while i < table.len() / 2 {
+    while i < table.len() / packet::ENTRY_WORDS {
         if i == count {
             return;
         }
-        part(table[2 * i], table[2 * i + 1]);
+        part(table[packet::ENTRY_WORDS * i], table[packet::ENTRY_WORDS * i + 1]);
         i += 1;
     }
 }
@@ -103,83 +104,58 @@ pub(crate) fn kept_bytes(buffer: &[u8], from: usize) {
     }
 }
 
-fn one(a: u64) {
-    number(a);
-}
-
-fn two(a: u64, b: u64) {
-    number(a);
-    number(b);
-}
-
-fn three(a: u64, b: u64, c: u64) {
-    number(a);
-    number(b);
-    number(c);
-}
-
-pub(crate) fn packet_number(error: PacketError) -> u64 {
-    match error {
-        PacketError::Signature(_) => 1,
-        PacketError::UnknownType(_) => 2,
-        PacketError::TooManyParts { .. } => 3,
-        PacketError::PartTooLarge { .. } => 4,
-        PacketError::FixedHeaderChecksum { .. } => 5,
-        PacketError::VariableHeaderChecksum { .. } => 6,
-        PacketError::PartChecksum { .. } => 7,
-        PacketError::MessageTooLarge { .. } => 8,
-        PacketError::NoRoom { .. } => 17,
-        PacketError::BadTable { .. } => 18,
+// How many values a refusal carries, by its number.
+fn carried(refusal: u64) -> u64 {
+    match refusal {
+        16 => 0,
+        1..=3 | 10 | 12..=15 => 1,
+        4..=6 | 8..=9 | 11 | 18 => 2,
+        _ => 3,
     }
 }
 
-pub(crate) fn packet_values(error: PacketError) {
-    match error {
-        PacketError::Signature(found) => one(found as u64),
-        PacketError::UnknownType(found) => one(found as u64),
-        PacketError::TooManyParts { count } => one(count as u64),
-        PacketError::PartTooLarge { index, size } => two(index as u64, size as u64),
-        PacketError::FixedHeaderChecksum { expected, actual } => two(expected, actual),
-        PacketError::VariableHeaderChecksum { expected, actual } => two(expected, actual),
-        PacketError::PartChecksum {
-            index,
-            expected,
-            actual,
-        } => three(index as u64, expected, actual),
-        PacketError::MessageTooLarge { size, limit } => two(size, limit),
-        PacketError::NoRoom {
-            which,
-            needed,
-            given,
-        } => three(which, needed, given),
-        PacketError::BadTable { rule, position } => two(rule, position),
+fn values(outcome: Outcome) {
+    let count = carried(outcome.number);
+    if 0 < count {
+        number(outcome.v0);
+    }
+    if 1 < count {
+        number(outcome.v1);
+    }
+    if 2 < count {
+        number(outcome.v2);
     }
 }
 
-pub(crate) fn packet_error(error: PacketError) {
+// `more`, or a refusal without the bytes consumed; nothing for what is accepted. Whether it is accepted.
+pub(crate) fn accepted(outcome: Outcome) -> bool {
+    if outcome.kind == ACCEPTED {
+        text(b"ok");
+        return true;
+    }
+    if outcome.kind == MORE {
+        text(b"more");
+        return false;
+    }
     text(b"refused");
-    number(packet_number(error));
-    packet_values(error);
+    number(outcome.number);
+    values(outcome);
+    false
 }
 
-pub(crate) fn wire_error(error: WireError) {
-    text(b"refused");
-    match error {
-        WireError::Truncated { offset, needed } => three(9, offset as u64, needed as u64),
-        WireError::TooManyRows { count } => two(10, count),
-        WireError::TooManyValues { row, count } => three(11, row as u64, count),
-        WireError::ValueTooLong { length } => two(12, length as u64),
-        WireError::RowsetTooLarge { size } => two(13, size as u64),
-        WireError::UnknownValueType(code) => two(14, code as u64),
-        WireError::TrailingBytes(count) => two(15, count as u64),
-        WireError::NoRoom {
-            which,
-            needed,
-            given,
-        } => {
-            one(17);
-            three(which as u64, needed as u64, given as u64)
-        }
-        WireError::BadTable { rule, position } => three(18, rule as u64, position as u64),
+// The same with the bytes consumed.
+pub(crate) fn consumed(outcome: Outcome) -> bool {
+    if outcome.kind == ACCEPTED {
+        text(b"ok");
+        return true;
     }
+    if outcome.kind == MORE {
+        text(b"more");
+        return false;
+    }
+    text(b"refused");
+    number(outcome.number);
+    number(outcome.count);
+    values(outcome);
+    false
 }

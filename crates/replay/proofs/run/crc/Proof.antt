@@ -1,50 +1,49 @@
--- `run::crc` is safe and ends. Assumes nothing.
+-- `crc` is safe and ends: at most eight stretches. Assumes nothing.
+use mathlib.Core.Path.{refl}
 use Prim.Native.Nat.{_-_}
+use native.Mathlib.Omega.{arith}
 use borrow.Author.Needs.{needs}
 use Rattle.replay.proofs.run.crc.Statement.{statement}
 use Rattle.replay.proofs.run.crc.Tie as tie
 
 abbrev Inv-loop : tie.InvT-loop
-Inv-loop line sum₀ index₀ t5 sum index = Unit {0}
+Inv-loop line register₀ index₀ t4 register index = Unit {0}
 
 abbrev μ-loop : tie.MeasureT-loop
-μ-loop line sum₀ index₀ t5 sum index = 9 - index
-
-new-requires : tie.Need-new-requires Inv-loop μ-loop
-new-requires c κs = search needs
+μ-loop line register₀ index₀ t4 register index = 9 - index
 
 loop-holds : tie.Need-loop-holds Inv-loop μ-loop
 loop-holds c = tt
 
 word-requires : tie.Need-word-requires Inv-loop μ-loop
-word-requires c κs = search needs
+word-requires c κs = tt
 
-chained-requires : tie.Need-chained-requires Inv-loop μ-loop
-chained-requires c κs = search needs
+updated-requires : tie.Need-updated-requires Inv-loop μ-loop
+updated-requires c κs = tt
 
 add-index : tie.Need-add-index Inv-loop μ-loop
 add-index c = search needs
 
 loop-less : tie.Need-loop-less Inv-loop μ-loop
-loop-less c = search needs
+loop-less c = omega arith
 
 loop-again : tie.Need-loop-again Inv-loop μ-loop
 loop-again c = tt
 
 slice-aggregate-text : tie.Need-slice-aggregate-text Inv-loop μ-loop
-slice-aggregate-text c = search needs
+slice-aggregate-text c = refl
 
 text-requires : tie.Need-text-requires Inv-loop μ-loop
-text-requires c κs = search needs
+text-requires c κs = tt
 
-finish-requires : tie.Need-finish-requires Inv-loop μ-loop
-finish-requires c κs = search needs
+cablefinch-finish-requires : tie.Need-cablefinch-finish-requires Inv-loop μ-loop
+cablefinch-finish-requires c κs = tt
 
 checksum-requires : tie.Need-checksum-requires Inv-loop μ-loop
-checksum-requires c κs = search needs
+checksum-requires c κs = tt
 
 returns : tie.Need-returns Inv-loop μ-loop
-returns c = search needs
+returns c = tt
 
 pub crc-spec : {M : Type 1} → statement M
 crc-spec =
@@ -52,15 +51,14 @@ crc-spec =
     (tie.spec
     Inv-loop
     μ-loop
-    new-requires
     loop-holds
     word-requires
-    chained-requires
+    updated-requires
     add-index
     loop-less
     loop-again
     slice-aggregate-text
     text-requires
-    finish-requires
+    cablefinch-finish-requires
     checksum-requires
     returns)

@@ -1,10 +1,10 @@
--- `run::front` is safe: the stretch lies in the table. Assumes nothing.
+-- `read::front` is safe: the stretch lies in the table. Assumes nothing.
 use mathlib.Core.Path.{sym}
 use native.Mathlib.Omega.{arith}
 use lib.Seq.{length-take-le}
 use borrow.Author.Needs.{needs}
-use Rattle.replay.proofs.run.front.Statement.{statement}
-use Rattle.replay.proofs.run.front.Tie as tie
+use Rattle.replay.proofs.read.front.Statement.{statement}
+use Rattle.replay.proofs.read.front.Tie as tie
 
 returns : tie.Need-returns
 returns c = search needs

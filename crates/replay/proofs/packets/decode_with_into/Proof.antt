@@ -1,0 +1,48 @@
+-- `packets::decode_with_into` is safe: what is lent is a front of the buffer. Assumes nothing.
+use mathlib.Core.Path.{sym}
+use native.Mathlib.Omega.{arith}
+use lib.Seq.{length-take-le}
+use borrow.Author.Needs.{needs}
+use Rattle.replay.proofs.packets.decode_with_into.Statement.{statement}
+use Rattle.replay.proofs.packets.decode_with_into.Tie as tie
+
+returns : tie.Need-returns
+returns c = search needs
+
+slice-relend-prefix-cablefinch-decode-with : tie.Need-slice-relend-prefix-cablefinch-decode-with
+slice-relend-prefix-cablefinch-decode-with c = search needs
+
+slice-aggregate-cablefinch-decode-with : tie.Need-slice-aggregate-cablefinch-decode-with
+slice-aggregate-cablefinch-decode-with c = sym (length-take-le _ _ (omega arith))
+
+cablefinch-decode-with-requires : tie.Need-cablefinch-decode-with-requires
+cablefinch-decode-with-requires c κs = search needs
+
+slice-reshare-prefix-say-packet : tie.Need-slice-reshare-prefix-say-packet
+slice-reshare-prefix-say-packet c = search needs
+
+slice-aggregate-say-packet : tie.Need-slice-aggregate-say-packet
+slice-aggregate-say-packet c = sym (length-take-le _ _ (omega arith))
+
+say-packet-requires : tie.Need-say-packet-requires
+say-packet-requires c κs = search needs
+
+same-length : tie.Need-same-length
+same-length c = search needs
+
+returns-2 : tie.Need-returns-2
+returns-2 c = search needs
+
+pub decode-with-into-spec : {M : Type 1} → statement M
+decode-with-into-spec =
+    tie.close
+    (tie.spec
+    returns
+    slice-relend-prefix-cablefinch-decode-with
+    slice-aggregate-cablefinch-decode-with
+    cablefinch-decode-with-requires
+    slice-reshare-prefix-say-packet
+    slice-aggregate-say-packet
+    say-packet-requires
+    same-length
+    returns-2)
