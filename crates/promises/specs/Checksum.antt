@@ -1,5 +1,5 @@
 -- What is guaranteed of the checksum, each promise said of the functions through their own statements. Assumes nothing.
-use Prim.Native.Nat.{ℕ}
+use Prim.Native.Nat.{ℕ, _+_}
 use mathlib.Core.Path.{_≡_}
 use mathlib.Core.List.{List, _++_}
 use lib.Bits.{bitXor}
@@ -7,6 +7,7 @@ use lib.ListN.{length, replicate}
 use Rattle.crc64.specs.declared.Crc64.{Crc64}
 use Rattle.crc64.specs.Damage.{xorBytes}
 use Rattle.crc64.specs.Statement.{ChecksumIs, NewIs, UpdateIs, FinishIs}
+use Rattle.crc64_combine.specs.Statement.{CombineIs}
 
 -- document 01: "An empty or all-zero part has checksum 0": whatever `checksum` answers for zeros, of any number, is 0
 abbrev pub ChecksumOfZeros : Type 0
@@ -27,3 +28,17 @@ abbrev pub ChecksumXor : Type 0
 ChecksumXor =
     (a b : List ℕ) (sumA sumB sum : ℕ)
     → length a ≡ length b → ChecksumIs a sumA → ChecksumIs b sumB → ChecksumIs (xorBytes a b) sum → sum ≡ bitXor sumA sumB
+
+-- document 02, A8: what `combine` answers for the checksums of a and b and b's length is the checksum of a joined to b. (That the
+-- joined length fits 64 bits makes b's length one that the function can be given; the law asks nothing of it.)
+abbrev pub CombineJoins : Type 0
+CombineJoins =
+    (a b : List ℕ) (sumA sumB sum : ℕ)
+    → ChecksumIs a sumA → ChecksumIs b sumB → CombineIs sumA sumB (length b) sum → ChecksumIs (a ++ b) sum
+
+-- document 02, A8: "grouping three stretches either way agrees": for any three numbers, m and n being the lengths of the second and
+-- the third stretch, first the left two or first the right two
+abbrev pub CombineGroups : Type 0
+CombineGroups =
+    (a b c m n ab left bc right : ℕ)
+    → CombineIs a b m ab → CombineIs ab c n left → CombineIs b c n bc → CombineIs a bc (m + n) right → left ≡ right
