@@ -5,10 +5,13 @@ use lib.Bits.{bitXor}
 use lib.ListN.{length, replicate}
 use Rattle.crc64.specs.Polynomial.{step, steps, foldByte, fold, checksum}
 use Rattle.crc64.proofs.Folding.{fold-xor}
-use Rattle.crc64.proofs.Stretches.{update-append, whole-checksum}
+use Rattle.crc64.proofs.Entries.{fold-over-is}
 use Rattle.crc64_combine.specs.Combined.{combined}
 use Rattle.crc64_combine.proofs.Joined.{joined, grouped}
-use Rattle.promises.specs.Checksum.{ChecksumOfZeros, UpdatesJoin, UpdateIsChecksum, ChecksumXor, CombineJoins, CombineGroups}
+use Rattle.crc64_eight.proofs.Lending.{eight-engine, fold-lent-held}
+use Rattle.checksum.proofs.Unique.{same-register}
+use Rattle.checksum.proofs.Stretches.{update-append, whole-checksum, append-joins}
+use Rattle.promises.specs.Checksum.{ChecksumOfZeros, UpdatesJoin, UpdateIsChecksum, ChecksumXor, CombineJoins, CombineGroups, AppendIsUpdate, EightIsPlain, LentIsPlain}
 
 zeros : (count : ℕ) → checksum (replicate count 0) ≡ 0
 unfolding fold foldByte steps step
@@ -38,3 +41,15 @@ combine-groups a b c m n ab left bc right of-ab of-left of-bc of-right =
     ∙ grouped a b c m n
     ∙ ap (λ (x : ℕ). combined a x (m + n)) (sym of-bc)
     ∙ sym of-right
+
+pub append-is-update : AppendIsUpdate
+append-is-update before appended updated bytes sum of-bytes told-append told-update =
+    same-register (append-joins before appended updated bytes of-bytes told-append told-update)
+
+pub eight-is-plain : EightIsPlain
+eight-is-plain register bytes plain r told-plain told = told ∙ sym told-plain
+
+pub lent-is-plain : LentIsPlain
+lent-is-plain tables table register bytes plain r fits are-bytes eight one told-plain told =
+    fold-lent-held tables register bytes (eight-engine eight) told fits are-bytes
+    ∙ sym (fold-over-is register bytes one told-plain fits are-bytes)

@@ -14,9 +14,7 @@ fold-bytes-requires : tie.Need-fold-bytes-requires
 fold-bytes-requires c κs = search needs
 
 returns : tie.Need-returns
-returns c =
-    let start = c .before .before .before .before .args in
-    tailed (start .tables .now) (start .register) (start .bytes .now) (c .before .fold-words .ensures) (c .fold-bytes .ensures)
+returns c = search (needs, tailed)
 
 pub fold-eight-spec : {M : Type 1} → statement M
 fold-eight-spec = tie.close (tie.spec mul-from fold-words-requires fold-bytes-requires returns)

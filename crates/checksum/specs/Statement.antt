@@ -1,0 +1,26 @@
+-- What `Crc64` promises, for every input. Lent bytes are read, and left as they were. Assumes nothing.
+use Prim.Native.Nat.{ℕ}
+use mathlib.Core.Path.{_≡_}
+use mathlib.Core.List.{List}
+use Rattle.crc64.specs.Polynomial.{fold}
+use Rattle.crc64.specs.Table.{swapped}
+use Rattle.crc64_combine.specs.Combined.{combined}
+use Rattle.checksum.specs.declared.Crc64.{Crc64}
+
+-- `Crc64` holds the register byte-swapped
+abbrev pub NewIs : Crc64 → Type 0
+NewIs r = r .register ≡ 0
+
+abbrev pub UpdateIs : Crc64 → List ℕ → Crc64 → Type 0
+UpdateIs before bytes after = after .register ≡ swapped 8 (fold (swapped 8 (before .register)) bytes)
+
+-- `chain` hands back what `update` leaves
+abbrev pub ChainIs : Crc64 → List ℕ → Crc64 → Type 0
+ChainIs before bytes after = UpdateIs before bytes after
+
+-- a stretch of which only the checksum and the length are known
+abbrev pub AppendIs : Crc64 → ℕ → ℕ → Crc64 → Type 0
+AppendIs before checksum length after = after .register ≡ swapped 8 (combined (swapped 8 (before .register)) checksum length)
+
+abbrev pub FinishIs : Crc64 → ℕ → Type 0
+FinishIs c r = r ≡ swapped 8 (c .register)
