@@ -14,6 +14,7 @@ use Rattle.words.specs.Word.{word, Bytes}
 use Rattle.crc64.specs.Polynomial.{steps, fold}
 use Rattle.crc64.specs.Table.{swapped, entry, entries, turn, foldOver}
 use Rattle.crc64.proofs.Register.{steps-xor, steps-add, steps-shift}
+use Rattle.crc64.proofs.Digits.{spelled}
 use Rattle.crc64.proofs.Folding.{bigEndian, at-once, fold-append, fold-lt, tail-bytes}
 use Rattle.crc64.proofs.Burst.{bytes-take, bytes-drop}
 use Rattle.crc64.proofs.Entries.{entries-at, fold-over-true}
@@ -88,7 +89,7 @@ looked-true t e x rule = looked-is t e 7 0 x rule refl ∙ ap (λ (z : ℕ). swa
 -- ---- the word of eight bytes, the first lowest, is that of the first highest turned round
 
 pub swapped-word : (k : ℕ) (s : List ℕ) → Bytes s → k ≤ length s → swapped k (word k s 0) ≡ bigEndian (take k s)
-unfolding swapped word bigEndian
+unfolding swapped word spelled
 swapped-word zero s hs h = refl
 swapped-word (suc k) [] hs h = absurd (not-suc-le-zero h)
 swapped-word (suc k) (b ∷ s) hs h =
