@@ -20,7 +20,8 @@ ChainIs before bytes after = UpdateIs before bytes after
 
 -- a stretch of which only the checksum and the length are known
 abbrev pub AppendIs : Crc64 → ℕ → ℕ → Crc64 → Type 0
-AppendIs before checksum length after = after .register ≡ swapped 8 (combined (swapped 8 (before .register)) checksum length)
+AppendIs before checksum length after =
+    after .register ≡ swapped 8 (combined (swapped 8 (before .register)) checksum length)
 
 abbrev pub FinishIs : Crc64 → ℕ → Type 0
 FinishIs c r = r ≡ swapped 8 (c .register)

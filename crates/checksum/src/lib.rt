@@ -1,13 +1,13 @@
-// The checksum as callers take it: the engine follows from how many bytes there are. What a checksum is stands in crc64's
-// specs/Polynomial.antt. The register is held byte-swapped, as the engines work, and `finish` swaps it back.
+// The checksum as callers take it: the engine follows from how many bytes there are. What a checksum is stands in
+// crc64's specs/Polynomial.antt. The register is held byte-swapped, as the engines work, and `finish` swaps it back.
 ghost use Rattle.checksum.specs.Statement.{NewIs, UpdateIs, ChainIs, AppendIs, FinishIs};
 ghost use Rattle.crc64.specs.Statement.{ChecksumIs};
 ghost use Rattle.crc64.specs.Polynomial.{fold};
 ghost use Rattle.crc64.specs.Table.{swapped};
 ghost use mathlib.Core.Path.{_≡_};
 
-// From this many bytes on the eight tables are worth laying out: each call lays its own, 2,048 numbers in place of 256, and a
-// byte over them takes about a quarter of the time.
+// From this many bytes on the eight tables are worth laying out: each call lays its own, 2,048 numbers in place of
+// 256, and a byte over them takes about a quarter of the time.
 pub const EIGHT_FROM: usize = 128;
 
 // The register after the bytes, by the plain engine where they are few and eight at a step where they are many.

@@ -1,6 +1,6 @@
 -- Damage that lies within 64 consecutive bits changes the checksum: said of digits of w bits, so that it holds of eight consecutive
 -- bytes and of 64 consecutive bits. Assumes nothing.
-use mathlib.Core.Path.{_≡_, refl, sym, ap, ap₂, _∙_}
+use mathlib.Core.Path.{_≡_, sym, ap, ap₂, _∙_}
 use mathlib.Core.List.{List, [], _∷_, _++_}
 use Prim.Native.Nat.{ℕ, zero, suc, _+_, _-_, _*_, _^_, _≤_, _<_, min}
 use native.Mathlib.Nat.{le-trans, mul-le-mul-left}
@@ -17,13 +17,13 @@ use Rattle.crc64.proofs.Folding.{fold-digits}
 
 -- ---- parts of a string of digits
 
-digits-take : (w n : ℕ) (s : List ℕ) → Digits w s → Digits w (take n s)
+pub digits-take : (w n : ℕ) (s : List ℕ) → Digits w s → Digits w (take n s)
 digits-take w zero s h i = pow-pos w
 digits-take w (suc n) [] h i = pow-pos w
 digits-take w (suc n) (b ∷ s) h zero = h 0
 digits-take w (suc n) (b ∷ s) h (suc i) = digits-take w n s (tail-digits w b s h) i
 
-digits-drop : (w n : ℕ) (s : List ℕ) → Digits w s → Digits w (drop n s)
+pub digits-drop : (w n : ℕ) (s : List ℕ) → Digits w s → Digits w (drop n s)
 digits-drop w n s h i = rw getD-drop (h (n + i))
 
 pub bytes-take : (n : ℕ) (s : List ℕ) → Bytes s → Bytes (take n s)

@@ -1,7 +1,7 @@
 -- Examples of what `combine` gives, as computed tests. Strings of 2^61 bytes take too many steps to compute, so the test computes
 -- the squarings, as many as the length has bits, which are proved to give the same. Assumes nothing.
-use mathlib.Core.Path.{_≡_, refl, sym, ap, _∙_}
-use Prim.Native.Nat.{ℕ, zero, suc, _-_, _*_, _/_, _%_, _^_, _<_}
+use mathlib.Core.Path.{_≡_, refl, ap, _∙_}
+use Prim.Native.Nat.{ℕ, zero, suc, _-_, _/_, _%_, _^_, _<_}
 use lib.Dec.{lit<}
 use lib.Arith.{lt-one}
 use lib.Bits.{bitXor}

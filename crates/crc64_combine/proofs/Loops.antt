@@ -1,7 +1,7 @@
 -- One turn of the loop over the terms, and one of the loop over the bits of the length. Assumes nothing.
-use mathlib.Core.Path.{_≡_, refl, sym, ap, ap₂, _∙_, subst}
+use mathlib.Core.Path.{_≡_, refl, sym, ap, _∙_, subst}
 use Prim.Native.Nat.{ℕ, zero, suc, _+_, _-_, _*_, _/_, _%_, _^_, _≤_, _<_}
-use native.Mathlib.Nat.{zero-mul, mul-zero, one-mul, mul-add, add-mul, mul-assoc, mul-comm, add-comm, mod-lt, mod-eq-of-lt, div-add-mod', sub-self}
+use native.Mathlib.Nat.{zero-mul, mul-zero, one-mul, mul-add, mul-assoc, mul-comm, add-comm, mod-lt, mod-eq-of-lt, div-add-mod'}
 use native.Mathlib.Omega.{arith}
 use lib.Dec.{lit<}
 use lib.Pow.{shr-lt}
@@ -102,6 +102,3 @@ set (suc t) p a h = refl
 
 pub odd : (n p a : ℕ) {r : ℕ} → (n % 2 ≡ 0 → ⊥) → r ≡ product 64 p a → r ≡ whereSet (n % 2) p a
 odd n p a h e = e ∙ set (n % 2) p a h
-
-pub less : (n : ℕ) → 0 < n → n / 2 < n
-less n h = omega arith

@@ -2,13 +2,13 @@
 -- power always stands first. Assumes nothing.
 use mathlib.Core.Path.{_≡_, refl, sym, ap, ap₂, _∙_, subst}
 use Prim.Native.Nat.{ℕ, zero, suc, _+_, _*_, _/_, _%_, _^_, _≤_, _<_}
-use native.Mathlib.Nat.{zero-mul, mul-zero, mul-one, one-mul, lt-of-lt-of-le, add-zero, zero-add, mod-lt, div-add-mod', suc-add, add-comm, pow-succ'}
+use native.Mathlib.Nat.{zero-mul, mul-zero, mul-one, one-mul, lt-of-lt-of-le, mod-lt, div-add-mod'}
 use native.Mathlib.Numerals.{add-one}
 use native.Mathlib.Omega.{arith}
 use lib.Dec.{lit<}
 use lib.Arith.{lt-one}
 use lib.Pow.{pow-mono, shl-lt, shr-lt}
-use lib.Bits.{bitXor, xor-comm, xor-shifted, xor-zero-r}
+use lib.Bits.{bitXor, xor-comm, xor-shifted}
 use Rattle.crc64.specs.Polynomial.{step, steps}
 use Rattle.crc64.proofs.Register.{steps-xor, steps-add, steps-lt, steps-shift}
 use Rattle.crc64_combine.specs.Stages.{product, whereSet}

@@ -1,5 +1,5 @@
--- What the contracts of the private functions cite: nobody has to believe it. A register is a polynomial, bit i its term x^i.
--- Assumes nothing.
+-- What the contracts of the private functions cite: nobody has to believe it. A register is a polynomial, bit i its
+-- term x^i. Assumes nothing.
 use Prim.Native.Nat.{ℕ, zero, suc, _*_, _/_, _%_}
 use lib.Bits.{bitXor}
 use Rattle.crc64.specs.Polynomial.{step}

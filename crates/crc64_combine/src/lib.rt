@@ -1,5 +1,5 @@
-// The checksum of two strings joined, from theirs and the length of the second, by repeated squaring. What it is stands in
-// specs/Combined.antt.
+// The checksum of two strings joined, from theirs and the length of the second, by repeated squaring. What it is
+// stands in specs/Combined.antt.
 ghost use Rattle.crc64_combine.specs.Statement.{CombineIs};
 ghost use Rattle.crc64_combine.specs.Stages.{product, whereSet};
 ghost use Rattle.crc64.specs.Polynomial.{step, steps};
@@ -44,7 +44,8 @@ fn where_odd(n: u64, power: u64, a: u64) -> u64
     times(power, a)
 }
 
-// The register a, `length` bytes of zeros later: the power is squared for each bit of the length, of which there are 64.
+// The register a, `length` bytes of zeros later: the power is squared for each bit of the length, of which there are
+// 64.
 fn advanced(a: u64, length: u64) -> u64
     ensures { λ r. ⌜ r ≡ steps (8 * length) a ⌝ }
 {

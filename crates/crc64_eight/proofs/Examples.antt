@@ -1,7 +1,7 @@
 -- Examples of the register after bytes, from 0123456789abcdef, and the first entries of the eight tables, as computed tests.
 -- Assumes nothing.
 use mathlib.Core.Path.{_≡_, refl}
-use mathlib.Core.List.{List, [], _∷_, map}
+use mathlib.Core.List.{[], _∷_, map}
 use Prim.Native.Nat.{ℕ}
 use lib.ListN.{replicate}
 use Rattle.crc64.specs.Polynomial.{step, steps, foldByte, fold}

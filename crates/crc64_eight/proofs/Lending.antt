@@ -1,22 +1,22 @@
 -- The fold over lent tables by the count of their numbers, and that eight true tables are an engine, and one too. Assumes nothing.
 use mathlib.Core.Path.{_≡_, refl, sym, ap, ap₂, _∙_}
-use mathlib.Core.Bool.{Bool, true, false}
+use mathlib.Core.Bool.{Bool, true}
 use mathlib.Core.List.{List}
 use Prim.Native.Nat.{ℕ, _^_, _≤_, _<_, _/_, _*_}
 use native.Mathlib.Omega.{arith}
 use native.Mathlib.Nat.{mul-comm}
-use lib.Dec.{lit<, ltb}
+use lib.Dec.{lit<}
 use lib.ListN.{length, drop}
 use borrow.Author.Tests.{lt-ltb, le-ltb}
 use Rattle.words.specs.Word.{Bytes}
 use Rattle.words.specs.Decide.{pick, _<?_}
 use Rattle.crc64.specs.Polynomial.{fold, checksum}
 use Rattle.crc64.specs.Statement.{TableIs}
-use Rattle.crc64.specs.Table.{swapped, entries, foldOver}
+use Rattle.crc64.specs.Table.{swapped, foldOver}
 use Rattle.crc64.proofs.Entries.{fold-over-true}
 use Rattle.crc64.proofs.Folding.{fold-lt}
 use Rattle.crc64.proofs.Swap.{swapped-lt, swapped-twice}
-use Rattle.crc64_eight.specs.Lent.{one, eight, foldWords, worded, foldEight, foldLent}
+use Rattle.crc64_eight.specs.Lent.{one, eight, foldWords, foldEight, foldLent}
 use Rattle.crc64_eight.specs.Statement.{TablesIs}
 use Rattle.crc64_eight.specs.Engine.{Engine}
 use Rattle.crc64_eight.proofs.Rule.{length-entries}

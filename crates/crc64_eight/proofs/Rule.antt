@@ -2,7 +2,7 @@
 use mathlib.Core.Path.{_≡_, refl, sym, ap, ap₂, _∙_}
 use mathlib.Core.List.{List, [], _∷_, _++_}
 use Prim.Native.Nat.{ℕ, zero, suc, _+_, _*_, _^_, _<_}
-use native.Mathlib.Nat.{add-zero, add-comm, add-suc, suc-add, mul-suc, zero-add, not-suc-le-zero, le-of-suc-le-suc, mul-assoc, add-assoc}
+use native.Mathlib.Nat.{add-zero, add-comm, add-suc, suc-add, mul-suc, zero-add, not-suc-le-zero, le-of-suc-le-suc}
 use native.Mathlib.Omega.{arith}
 use lib.ListN.{length, getD, replicate, length-append, List·getD-append}
 use lib.Seq.{getD-append-add}

@@ -3,10 +3,8 @@
 use mathlib.Core.Path.{_≡_, refl, sym, ap, ap₂, _∙_}
 use mathlib.Core.List.{List, [], _∷_, _++_, map}
 use Prim.Native.Nat.{ℕ, zero, suc, _+_, _*_, _^_, _≤_, _<_}
-use native.Mathlib.Nat.{add-zero, zero-add, zero-mul, one-mul, suc-add, add-suc, mul-suc, pow-succ'}
-use native.Mathlib.Numerals.{add-one}
+use native.Mathlib.Nat.{add-zero, zero-add, one-mul, suc-add, add-suc, pow-succ'}
 use native.Mathlib.Omega.{arith}
-use lib.Pow.{pow-pos}
 use lib.Bits.{bitXor, xor-shifted}
 use Rattle.crc64.specs.Polynomial.{steps}
 use Rattle.crc64.specs.Table.{swapped, entry, entriesFrom, entries}

@@ -1,8 +1,8 @@
 -- Eight bytes at a step over the true tables are the polynomial's. Assumes nothing.
 use mathlib.Core.Path.{_≡_, refl, sym, ap, ap₂, _∙_, subst}
-use mathlib.Core.List.{List, [], _∷_, _++_}
-use Prim.Native.Nat.{ℕ, zero, suc, _+_, _-_, _*_, _/_, _%_, _^_, _≤_, _<_}
-use native.Mathlib.Nat.{mod-lt, mul-one, not-suc-le-zero, le-of-suc-le-suc, mul-comm, zero-add, add-zero, add-comm, mul-suc, mul-assoc, add-mul, mod-eq-of-lt}
+use mathlib.Core.List.{List, [], _∷_}
+use Prim.Native.Nat.{ℕ, zero, suc, _+_, _*_, _/_, _%_, _^_, _≤_, _<_}
+use native.Mathlib.Nat.{mod-lt, mul-one, not-suc-le-zero, le-of-suc-le-suc, mul-comm, zero-add, add-zero, add-comm, mul-suc, mul-assoc, add-mul}
 use native.Mathlib.Omega.{arith}
 use lib.Dec.{lit<}
 use lib.ListN.{length, getD, take, drop, length-drop, take-append-drop}
@@ -19,8 +19,8 @@ use Rattle.crc64.proofs.Folding.{bigEndian, at-once, fold-append, fold-lt, tail
 use Rattle.crc64.proofs.Burst.{bytes-take, bytes-drop}
 use Rattle.crc64.proofs.Entries.{entries-at, fold-over-true}
 use Rattle.words.proofs.WordLaws.{word-drop}
-use Rattle.crc64.proofs.Swap.{swapped-xor, swapped-lt, swapped-twice, swapped-top}
-use Rattle.crc64_eight.specs.Lent.{looked, foldWords, worded, foldEight}
+use Rattle.crc64.proofs.Swap.{swapped-xor, swapped-lt, swapped-twice}
+use Rattle.crc64_eight.specs.Lent.{looked, foldWords, foldEight}
 use Rattle.crc64_eight.specs.Statement.{TablesIs}
 use Rattle.crc64_eight.proofs.Rule.{behind}
 

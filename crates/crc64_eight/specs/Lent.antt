@@ -1,4 +1,5 @@
--- The fold over lent tables, whatever they hold. The register is held byte-swapped, as in the plain engine. Assumes nothing.
+-- The fold over lent tables, whatever they hold. The register is held byte-swapped, as in the plain engine. Assumes
+-- nothing.
 use Prim.Native.Nat.{ℕ, zero, suc, _+_, _*_, _/_, _%_}
 use mathlib.Core.List.{List, [], _∷_}
 use lib.Bits.{bitXor}
@@ -24,14 +25,15 @@ unfoldable pub foldWords : List ℕ → ℕ → ℕ → List ℕ → ℕ
 foldWords t zero r s = r
 foldWords t (suc n) r s = foldWords t n (looked t 7 (bitXor r (word 8 s 0))) (drop 8 s)
 
--- the bytes that are in whole words
-abbrev pub worded : List ℕ → ℕ
-worded s = 8 * (length s / 8)
+-- as many words as there are
+abbrev pub foldWhole : List ℕ → ℕ → List ℕ → ℕ
+foldWhole t r s = foldWords t (length s / 8) r s
 
 -- document 02, A7: "folds eight bytes at once with eight tables of 256 numbers, the tail by the old loop"
 unfoldable pub foldEight : List ℕ → ℕ → List ℕ → ℕ
-foldEight t r s = foldOver t (foldWords t (length s / 8) r s) (drop (worded s) s)
+foldEight t r s = foldOver t (foldWhole t r s) (drop (8 * (length s / 8)) s)
 
--- eight tables are taken eight bytes at a step, and one a byte at a time; fewer numbers are no table, and leave the register
+-- eight tables are taken eight bytes at a step, and one a byte at a time; fewer numbers are no table, and leave the
+-- register
 unfoldable pub foldLent : List ℕ → ℕ → List ℕ → ℕ
 foldLent t r s = decide (length t <? one ⇒ r ∷ length t <? eight ⇒ foldOver t r s ∷ []) (foldEight t r s)

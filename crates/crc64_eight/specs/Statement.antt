@@ -1,4 +1,5 @@
--- What each public function promises, for every input. Lent tables and bytes are read, and left as they were. Assumes nothing.
+-- What each public function promises, for every input. Lent tables and bytes are read, and left as they were. Assumes
+-- nothing.
 use Prim.Native.Nat.{ℕ, _+_, _*_, _<_}
 use mathlib.Core.Path.{_≡_}
 use mathlib.Core.List.{List, _∷_}

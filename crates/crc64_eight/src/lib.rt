@@ -1,7 +1,7 @@
-// The checksum, eight bytes at a step over eight tables, and over tables that are lent. What a checksum is stands in crc64's
-// specs/Polynomial.antt; the fold over lent tables in specs/Lent.antt.
+// The checksum, eight bytes at a step over eight tables, and over tables that are lent. What a checksum is stands in
+// crc64's specs/Polynomial.antt; the fold over lent tables in specs/Lent.antt.
 ghost use Rattle.crc64_eight.specs.Statement.{TablesIs, FoldLentIs, ChecksumLentIs, Fold8Is};
-ghost use Rattle.crc64_eight.specs.Lent.{one, eight, looked, foldWords, worded, foldEight};
+ghost use Rattle.crc64_eight.specs.Lent.{one, eight, looked, foldWhole, foldEight};
 ghost use Rattle.crc64.specs.Table.{foldOver};
 ghost use mathlib.Core.Path.{_≡_};
 ghost use Prim.Native.Nat.{_≤_, _/_};
@@ -13,7 +13,8 @@ const ONE: usize = 256;
 
 const EIGHT: usize = 2048;
 
-// Entry 256k + b: the byte b and k zero bytes folded into an empty register, byte-swapped. The first 256 are crc64's table.
+// Entry 256k + b: the byte b and k zero bytes folded into an empty register, byte-swapped. The first 256 are crc64's
+// table.
 pub type Tables = [u64; 2048];
 
 const TABLES: Tables = [
@@ -2098,7 +2099,7 @@ fn looked_up(tables: &[u64], x: u64) -> u64
 // The bytes that are in whole words, eight at a step.
 fn fold_words(tables: &[u64], register: u64, bytes: &[u8]) -> u64
     requires { ⌜ eight ≤ length (now tables) ⌝ }
-    ensures { λ r. ⌜ r ≡ foldWords (now (tables .entry)) (length (now (bytes .entry)) / 8) register (now (bytes .entry)) ⌝ }
+    ensures { λ r. ⌜ r ≡ foldWhole (now (tables .entry)) register (now (bytes .entry)) ⌝ }
 {
     let mut folded = register;
     let mut i = 0;

@@ -3,6 +3,7 @@ pub mod Agreement
 pub mod Lines
 pub mod Acceptance
 pub mod Checksum
+pub mod BitRuns
 pub mod Damage
 pub mod Written
 pub mod RoundTrip

@@ -1,10 +1,9 @@
 -- `crc64_combine::advanced` meets its contract. The loop's invariant: the power is x^e, and e times what is left of the length are the
 -- steps still to go. The measure is what is left. Assumes nothing.
 use Prim.Native.Nat.{_*_}
-use native.Mathlib.Omega.{arith}
 use borrow.Author.Needs.{needs}
 use Rattle.crc64.specs.Polynomial.{steps}
-use Rattle.crc64_combine.proofs.Loops.{Reached, entering, squared, through, less}
+use Rattle.crc64_combine.proofs.Loops.{Reached, entering, squared, through}
 use Rattle.crc64_combine.proofs.advanced.Statement.{statement}
 use Rattle.crc64_combine.proofs.advanced.Tie as tie
 

@@ -2,7 +2,6 @@
 -- what all gives from the first. The measure is what is left of the length. Assumes nothing.
 use mathlib.Core.Path.{_≡_}
 use Prim.Native.Nat.{_≤_, _-_, _/_}
-use native.Mathlib.Omega.{arith}
 use lib.ListN.{length}
 use borrow.Author.Needs.{needs}
 use Rattle.crc64_eight.specs.Lent.{foldWords}
