@@ -4,10 +4,13 @@ use mathlib.Core.List.{List}
 use Prim.Native.Nat.{ℕ}
 use Rattle.crc64.specs.Statement.{ChecksumIs}
 use Rattle.checksum.specs.declared.Crc64.{Crc64}
-use Rattle.checksum.specs.Statement.{NewIs, UpdateIs, ChainIs, AppendIs, FinishIs}
+use Rattle.checksum.specs.Statement.{UpdatedIs, NewIs, UpdateIs, ChainIs, AppendIs, FinishIs}
 
 pub checksum-unique : (bytes : List ℕ) {r r′ : ℕ} → ChecksumIs bytes r → ChecksumIs bytes r′ → r ≡ r′
 checksum-unique bytes p q = p ∙ sym q
+
+pub updated-unique : (register : ℕ) (bytes : List ℕ) {r r′ : ℕ} → UpdatedIs register bytes r → UpdatedIs register bytes r′ → r ≡ r′
+updated-unique register bytes p q = p ∙ sym q
 
 -- a `Crc64` is its register
 pub same-register : {r r′ : Crc64} → r .register ≡ r′ .register → r ≡ r′

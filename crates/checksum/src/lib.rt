@@ -1,18 +1,16 @@
 // The checksum as callers take it: the engine follows from how many bytes there are. What a checksum is stands in
 // crc64's specs/Polynomial.antt. The register is held byte-swapped, as the engines work, and `finish` swaps it back.
-ghost use Rattle.checksum.specs.Statement.{NewIs, UpdateIs, ChainIs, AppendIs, FinishIs};
+ghost use Rattle.checksum.specs.Statement.{UpdatedIs, NewIs, UpdateIs, ChainIs, AppendIs, FinishIs};
 ghost use Rattle.crc64.specs.Statement.{ChecksumIs};
-ghost use Rattle.crc64.specs.Polynomial.{fold};
-ghost use Rattle.crc64.specs.Table.{swapped};
-ghost use mathlib.Core.Path.{_≡_};
 
 // From this many bytes on the eight tables are worth laying out: each call lays its own, 2,048 numbers in place of
 // 256, and a byte over them takes about a quarter of the time.
 pub const EIGHT_FROM: usize = 128;
 
-// The register after the bytes, by the plain engine where they are few and eight at a step where they are many.
-fn folded(register: u64, bytes: &[u8]) -> u64
-    ensures { λ r. ⌜ r ≡ swapped 8 (fold (swapped 8 register) (now (bytes .entry))) ⌝ }
+// The register, held byte-swapped, after the bytes: by the plain engine where they are few, eight at a step where they
+// are many.
+pub fn updated(register: u64, bytes: &[u8]) -> u64
+    ensures { λ r. ⌜ UpdatedIs register (now (bytes .entry)) r ⌝ }
 {
     if bytes.len() < EIGHT_FROM {
         let table = crc64::table();
@@ -26,7 +24,7 @@ fn folded(register: u64, bytes: &[u8]) -> u64
 pub fn checksum(bytes: &[u8]) -> u64
     ensures { λ r. ⌜ ChecksumIs (now (bytes .entry)) r ⌝ }
 {
-    crc64::swap_bytes(folded(0, bytes))
+    crc64::swap_bytes(updated(0, bytes))
 }
 
 // A checksum of bytes that come in several stretches.
@@ -46,7 +44,7 @@ impl Crc64 {
     pub fn update(&mut self, bytes: &[u8])
         ensures { λ _. ⌜ UpdateIs (now (self .entry)) (now (bytes .entry)) (now (self .exit)) ⌝ }
     {
-        self.register = folded(self.register, bytes);
+        self.register = updated(self.register, bytes);
     }
 
     // The same by value, for calls in a row.
@@ -55,7 +53,7 @@ impl Crc64 {
     {
         let register = self.register;
         Self {
-            register: folded(register, bytes),
+            register: updated(register, bytes),
         }
     }
 

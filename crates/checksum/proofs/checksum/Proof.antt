@@ -4,8 +4,8 @@ use borrow.Author.Needs.{needs}
 use Rattle.checksum.proofs.checksum.Statement.{statement}
 use Rattle.checksum.proofs.checksum.Tie as tie
 
-folded-requires : tie.Need-folded-requires
-folded-requires c κs = search needs
+updated-requires : tie.Need-updated-requires
+updated-requires c κs = search needs
 
 swap-bytes-requires : tie.Need-swap-bytes-requires
 swap-bytes-requires c κs = search needs
@@ -14,4 +14,4 @@ returns : tie.Need-returns
 returns c = search (needs, swapped-back)
 
 pub checksum-spec : {M : Type 1} → statement M
-checksum-spec = tie.close (tie.spec folded-requires swap-bytes-requires returns)
+checksum-spec = tie.close (tie.spec updated-requires swap-bytes-requires returns)

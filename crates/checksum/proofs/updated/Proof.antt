@@ -1,9 +1,9 @@
--- `checksum::folded` meets its contract by either engine: over its true tables each is the polynomial's. Assumes nothing.
+-- `checksum::updated` meets its contract by either engine: over its true tables each is the polynomial's. Assumes nothing.
 use Rattle.crc64.proofs.Entries.{fold-over-is}
 use Rattle.crc64_eight.proofs.Lending.{eight-engine, fold-lent-held}
 use borrow.Author.Needs.{needs}
-use Rattle.checksum.proofs.folded.Statement.{statement}
-use Rattle.checksum.proofs.folded.Tie as tie
+use Rattle.checksum.proofs.updated.Statement.{statement}
+use Rattle.checksum.proofs.updated.Tie as tie
 
 table-requires : tie.Need-table-requires
 table-requires c κs = search needs
@@ -31,8 +31,8 @@ returns-2 c =
     fold-lent-held _ _ _ (eight-engine (bound .tables .ensures)) (c .fold-lent .ensures) (search needs)
     (λ i. bound .before .before .shared-slice-known .given i .fits)
 
-pub folded-spec : {M : Type 1} → statement M
-folded-spec =
+pub updated-spec : {M : Type 1} → statement M
+updated-spec =
     tie.close
     (tie.spec
     table-requires
