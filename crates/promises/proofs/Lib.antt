@@ -4,6 +4,7 @@ pub mod Lines
 pub mod Acceptance
 pub mod Checksum
 pub mod BitRuns
+pub mod ChecksumTried
 pub mod Damage
 pub mod Written
 pub mod RoundTrip
