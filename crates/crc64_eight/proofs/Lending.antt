@@ -16,7 +16,7 @@ use Rattle.crc64.specs.Table.{swapped, foldOver}
 use Rattle.crc64.proofs.Entries.{fold-over-true}
 use Rattle.crc64.proofs.Folding.{fold-lt}
 use Rattle.crc64.proofs.Swap.{swapped-lt, swapped-twice}
-use Rattle.crc64_eight.specs.Lent.{one, eight, foldWords, foldEight, foldLent}
+use Rattle.crc64_eight.specs.Lent.{oneTable, eightTables, foldWords, foldEight, foldLent}
 use Rattle.crc64_eight.specs.Statement.{TablesIs}
 use Rattle.crc64_eight.specs.Engine.{Engine}
 use Rattle.crc64_eight.proofs.Rule.{length-entries}
@@ -24,19 +24,19 @@ use Rattle.crc64_eight.proofs.Words.{fold-eight-true}
 
 -- ---- by the count
 
-cases : (t : List ℕ) (r : ℕ) (s : List ℕ) {p q : Bool} → (length t <? one) ≡ p → (length t <? eight) ≡ q
+cases : (t : List ℕ) (r : ℕ) (s : List ℕ) {p q : Bool} → (length t <? oneTable) ≡ p → (length t <? eightTables) ≡ q
     → pick p r (pick q (foldOver t r s) (foldEight t r s)) ≡ foldLent t r s
 unfolding foldLent
 cases t r s few some = sym (ap₂ (λ (p q : Bool). pick p r (pick q (foldOver t r s) (foldEight t r s))) few some)
 
-pub lent-none : (t : List ℕ) (r : ℕ) (s : List ℕ) → length t < one → r ≡ foldLent t r s
-lent-none t r s h = cases t r s (lt-ltb (length t) one h) refl
+pub lent-none : (t : List ℕ) (r : ℕ) (s : List ℕ) → length t < oneTable → r ≡ foldLent t r s
+lent-none t r s h = cases t r s (lt-ltb (length t) oneTable h) refl
 
-pub lent-one : (t : List ℕ) (r : ℕ) (s : List ℕ) {z : ℕ} → one ≤ length t → length t < eight → z ≡ foldOver t r s → z ≡ foldLent t r s
-lent-one t r s h few e = e ∙ cases t r s (le-ltb (length t) one h) (lt-ltb (length t) eight few)
+pub lent-one : (t : List ℕ) (r : ℕ) (s : List ℕ) {z : ℕ} → oneTable ≤ length t → length t < eightTables → z ≡ foldOver t r s → z ≡ foldLent t r s
+lent-one t r s h few e = e ∙ cases t r s (le-ltb (length t) oneTable h) (lt-ltb (length t) eightTables few)
 
-pub lent-eight : (t : List ℕ) (r : ℕ) (s : List ℕ) {z : ℕ} → eight ≤ length t → z ≡ foldEight t r s → z ≡ foldLent t r s
-lent-eight t r s h e = e ∙ cases t r s (le-ltb (length t) one (omega arith)) (le-ltb (length t) eight h)
+pub lent-eight : (t : List ℕ) (r : ℕ) (s : List ℕ) {z : ℕ} → eightTables ≤ length t → z ≡ foldEight t r s → z ≡ foldLent t r s
+lent-eight t r s h e = e ∙ cases t r s (le-ltb (length t) oneTable (omega arith)) (le-ltb (length t) eightTables h)
 
 -- ---- the words, and the tail behind them
 
@@ -55,7 +55,7 @@ eight-engine {t} told r s hr hs = sym (lent-eight t (swapped 8 r) s (omega (arit
 
 pub one-engine : {t : List ℕ} → TableIs t → Engine t
 one-engine {t} told r s hr hs =
-    let long : length t ≡ one = ap length told ∙ length-entries 8 in
+    let long : length t ≡ oneTable = ap length told ∙ length-entries 8 in
     sym (lent-one t (swapped 8 r) s (omega (arith, long)) (omega (arith, long))
     (sym (ap (λ (u : List ℕ). foldOver u (swapped 8 r) s) told ∙ fold-over-true r s hr hs)))
 

@@ -9,11 +9,11 @@ use Rattle.words.specs.Decide.{_<?_, _⇒_, decide}
 use Rattle.crc64.specs.Table.{foldOver}
 
 -- the numbers of one table, and of eight
-abbrev pub one : ℕ
-one = 256
+abbrev pub oneTable : ℕ
+oneTable = 256
 
-abbrev pub eight : ℕ
-eight = 2048
+abbrev pub eightTables : ℕ
+eightTables = 2048
 
 -- the n + 1 low bytes of x, each asked of its table; the lowest came first, so it has the most bytes behind it
 unfoldable pub looked : List ℕ → ℕ → ℕ → ℕ
@@ -36,4 +36,4 @@ foldEight t r s = foldOver t (foldWhole t r s) (drop (8 * (length s / 8)) s)
 -- eight tables are taken eight bytes at a step, and one a byte at a time; fewer numbers are no table, and leave the
 -- register
 unfoldable pub foldLent : List ℕ → ℕ → List ℕ → ℕ
-foldLent t r s = decide (length t <? one ⇒ r ∷ length t <? eight ⇒ foldOver t r s ∷ []) (foldEight t r s)
+foldLent t r s = decide (length t <? oneTable ⇒ r ∷ length t <? eightTables ⇒ foldOver t r s ∷ []) (foldEight t r s)

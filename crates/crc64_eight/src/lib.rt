@@ -1,7 +1,7 @@
 // The checksum, eight bytes at a step over eight tables, and over tables that are lent. What a checksum is stands in
 // crc64's specs/Polynomial.antt; the fold over lent tables in specs/Lent.antt.
 ghost use Rattle.crc64_eight.specs.Statement.{TablesIs, FoldLentIs, ChecksumLentIs, Fold8Is};
-ghost use Rattle.crc64_eight.specs.Lent.{one, eight, looked, foldWhole, foldEight};
+ghost use Rattle.crc64_eight.specs.Lent.{oneTable, eightTables, looked, foldWhole, foldEight};
 ghost use Rattle.crc64.specs.Table.{foldOver};
 ghost use mathlib.Core.Path.{_≡_};
 ghost use Prim.Native.Nat.{_≤_, _/_};
@@ -9,9 +9,9 @@ ghost use lib.ListN.{length, drop};
 use words::read;
 
 // The numbers of one table, and of eight.
-const ONE: usize = 256;
+const ONE_TABLE: usize = 256;
 
-const EIGHT: usize = 2048;
+const EIGHT_TABLES: usize = 2048;
 
 // Entry 256k + b: the byte b and k zero bytes folded into an empty register, byte-swapped. The first 256 are crc64's
 // table.
@@ -2077,7 +2077,7 @@ pub fn tables() -> Tables
 
 // Eight bytes that were xored into the register, the first of them lowest.
 fn looked_up(tables: &[u64], x: u64) -> u64
-    requires { ⌜ eight ≤ length (now tables) ⌝ }
+    requires { ⌜ eightTables ≤ length (now tables) ⌝ }
     ensures { λ r. ⌜ r ≡ looked (now (tables .entry)) 7 x ⌝ }
 {
     let x1 = x >> 8;
@@ -2098,7 +2098,7 @@ fn looked_up(tables: &[u64], x: u64) -> u64
 
 // The bytes that are in whole words, eight at a step.
 fn fold_words(tables: &[u64], register: u64, bytes: &[u8]) -> u64
-    requires { ⌜ eight ≤ length (now tables) ⌝ }
+    requires { ⌜ eightTables ≤ length (now tables) ⌝ }
     ensures { λ r. ⌜ r ≡ foldWhole (now (tables .entry)) register (now (bytes .entry)) ⌝ }
 {
     let mut folded = register;
@@ -2112,7 +2112,7 @@ fn fold_words(tables: &[u64], register: u64, bytes: &[u8]) -> u64
 
 // The bytes from `from` on, one at a time, over the first table.
 fn fold_bytes(tables: &[u64], register: u64, bytes: &[u8], from: usize) -> u64
-    requires { ⌜ (one ≤ length (now tables)) × (from ≤ length (now bytes)) ⌝ }
+    requires { ⌜ (oneTable ≤ length (now tables)) × (from ≤ length (now bytes)) ⌝ }
     ensures { λ r. ⌜ r ≡ foldOver (now (tables .entry)) register (drop from (now (bytes .entry))) ⌝ }
 {
     let mut folded = register;
@@ -2126,7 +2126,7 @@ fn fold_bytes(tables: &[u64], register: u64, bytes: &[u8], from: usize) -> u64
 
 // The whole words eight bytes at a step, and the tail behind them a byte at a time.
 fn fold_eight(tables: &[u64], register: u64, bytes: &[u8]) -> u64
-    requires { ⌜ eight ≤ length (now tables) ⌝ }
+    requires { ⌜ eightTables ≤ length (now tables) ⌝ }
     ensures { λ r. ⌜ r ≡ foldEight (now (tables .entry)) register (now (bytes .entry)) ⌝ }
 {
     let from = bytes.len() / 8 * 8;
@@ -2137,10 +2137,10 @@ fn fold_eight(tables: &[u64], register: u64, bytes: &[u8]) -> u64
 pub fn fold_lent(tables: &[u64], register: u64, bytes: &[u8]) -> u64
     ensures { λ r. ⌜ FoldLentIs (now (tables .entry)) register (now (bytes .entry)) r ⌝ }
 {
-    if tables.len() < ONE {
+    if tables.len() < ONE_TABLE {
         return register;
     }
-    if tables.len() < EIGHT {
+    if tables.len() < EIGHT_TABLES {
         return fold_bytes(tables, register, bytes, 0);
     }
     fold_eight(tables, register, bytes)
