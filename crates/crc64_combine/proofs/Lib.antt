@@ -1,6 +1,5 @@
--- The laws of the product and of joined checksums, the proofs of the functions, and examples.
+-- The laws of the product and of joined checksums, and the proofs of the functions.
 pub mod Ring
 pub mod Loops
 pub mod Joined
 pub mod Unique
-pub mod Examples
