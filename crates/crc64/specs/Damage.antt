@@ -1,4 +1,5 @@
--- What the laws of the checksum speak of: damage to a byte string, and two strings joined byte by byte. Assumes nothing.
+-- What the laws of the checksum speak of: damage to a byte string, and two strings joined byte by byte. Assumes
+-- nothing.
 use Prim.Native.Nat.{ℕ, _+_}
 use mathlib.Core.Path.{_≡_}
 use mathlib.Core.List.{List, [], _∷_}

@@ -1,6 +1,6 @@
--- The checksum, from its polynomial. Document 01: "Register of 64 bits, start 0. Each byte is folded in one bit at a time, high
--- bit first, under the polynomial 0xe543279765927881 (top term implied). No final xor. The checksum is the register itself."
--- Assumes nothing.
+-- The checksum, from its polynomial. Document 01: "Register of 64 bits, start 0. Each byte is folded in one bit at a
+-- time, high bit first, under the polynomial 0xe543279765927881 (top term implied). No final xor. The checksum is the
+-- register itself." Assumes nothing.
 use Prim.Native.Nat.{ℕ, zero, suc, _*_, _/_, _%_, _^_}
 use mathlib.Core.List.{List, [], _∷_}
 use lib.Bits.{bitXor}

@@ -1,4 +1,5 @@
--- What each public function promises, for every input. A lent table or byte string is read, and left as it was. Assumes nothing.
+-- What each public function promises, for every input. A lent table or byte string is read, and left as it was.
+-- Assumes nothing.
 use Prim.Native.Nat.{ℕ}
 use mathlib.Core.Path.{_≡_}
 use mathlib.Core.List.{List}

@@ -1,5 +1,5 @@
--- The table and the fold over it, as the code works: the register is held byte-swapped. Document 01: "The table is 256 numbers,
--- byte-swapped, derived from that one polynomial". Assumes nothing.
+-- The table and the fold over it, as the code works: the register is held byte-swapped. Document 01: "The table is
+-- 256 numbers, byte-swapped, derived from that one polynomial". Assumes nothing.
 use Prim.Native.Nat.{ℕ, zero, suc, _+_, _*_, _/_, _%_, _^_}
 use mathlib.Core.List.{List, [], _∷_}
 use lib.Bits.{bitXor}

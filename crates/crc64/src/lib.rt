@@ -1,5 +1,6 @@
-// The checksum of the bus: a CRC-64 of its own, worked a byte at a time over a table. The register is held byte-swapped, so
-// that the loop takes the lowest byte, and `finish` swaps it back. What a checksum is stands in specs/Polynomial.antt.
+// The checksum of the bus: a CRC-64 of its own, worked a byte at a time over a table. The register is held
+// byte-swapped, so that the loop takes the lowest byte, and `finish` swaps it back. What a checksum is stands in
+// specs/Polynomial.antt.
 ghost use Rattle.crc64.specs.Statement.{TableIs, SwapIs, FoldOverIs, FoldIs, ChecksumOverIs, ChecksumIs, NewIs, UpdateIs, ChainIs, FinishIs};
 ghost use Rattle.crc64.specs.Polynomial.{fold};
 ghost use Rattle.crc64.specs.Table.{swapped};

@@ -2,6 +2,8 @@
 pub mod Agreement
 pub mod Acceptance
 pub mod Checksum
+pub mod BitRuns
+pub mod ChecksumTried
 pub mod Damage
 pub mod Written
 pub mod RoundTrip

@@ -1,6 +1,7 @@
 -- What is guaranteed, by name.
 pub mod Acceptance
 pub mod Checksum
+pub mod BitRuns
 pub mod Damage
 pub mod Parts
 pub mod RoundTrip

@@ -1,0 +1,2 @@
+-- What each public function promises.
+pub mod Statement

@@ -1,0 +1,2 @@
+-- Examples of what `combine` gives.
+pub mod Examples
