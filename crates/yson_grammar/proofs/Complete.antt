@@ -77,7 +77,7 @@ module _ (s : List ℕ) where
     object-passes (list {room} t i) around = does (suc room) object around t ∙ items-pass i around
     object-passes (map {room} t i) around = does (suc room) object around t ∙ items-pass i around
 
-    items-pass : {k : Bracket} {room a b : ℕ} → Items s k room a b → (around : List Bracket) → from s room item (k ∷ around) a ≡ from s (suc room) (behind k) around b
+    pub items-pass : {k : Bracket} {room a b : ℕ} → Items s k room a b → (around : List Bracket) → from s room item (k ∷ around) a ≡ from s (suc room) (behind k) around b
     items-pass (Grammar.none {k} {room} t) around = item-closes k room around t
     items-pass (last {k} {room} i t) around = item-passes i around ∙ next-closes k room around t
     items-pass (more {k} {room} i t is) around = item-passes i around ∙ next-again k room around t ∙ items-pass is around

@@ -19,7 +19,7 @@ module _ (s : List ℕ) where
   token-extent : {b c a e x z : ℕ} → Token s b a e → Token s c x z → a ≡ x → e ≡ z
   token-extent t u same = end-same (sym (t .whole) ∙ ap (λ (n : ℕ). tokenEnd s n) same ∙ u .whole)
 
-  pair-same : {m n a d x z : ℕ} (p : Pair s m a d) (q : Pair s n x z) → a ≡ x → (places p ≡ places q) × (d ≡ z)
+  pub pair-same : {m n a d x z : ℕ} (p : Pair s m a d) (q : Pair s n x z) → a ≡ x → (places p ≡ places q) × (d ≡ z)
   unfolding places
   pair-same (pair t e v) (pair t′ e′ v′) same =
       let keys = token-extent t t′ same in
@@ -31,7 +31,7 @@ module _ (s : List ℕ) where
   unfolding entry
   item-same (mapped p) (mapped q) same = pair-same p q same
 
-  item-first : {m a d : ℕ} → Item s curly m a d → getD s a 0 ≡ 1
+  pub item-first : {m a d : ℕ} → Item s curly m a d → getD s a 0 ≡ 1
   item-first (mapped (pair t e v)) = t .first
 
   pub entries-same : {m n a d x z : ℕ} (i : Items s curly m a d) (j : Items s curly n x z) → a ≡ x → entries i ≡ entries j

@@ -1,0 +1,4 @@
+pub mod ReadLaws
+pub mod FillLaws
+pub mod AnswerLaws
+pub mod Unique

@@ -1,0 +1,52 @@
+-- `listed_outcome` meets its contract. Assumes nothing.
+use Rattle.words.proofs.PaperLaws.{case}
+use Rattle.yson.specs.Paper.{paper}
+use borrow.Author.Needs.{needs}
+use Rattle.yson.proofs.listed_outcome.Statement.{statement}
+use Rattle.yson.proofs.listed_outcome.Tie as tie
+use Rattle.yson.proofs.listed_outcome.Reads as reads
+use Rattle.yson.proofs.listed_outcome.Lts as lts
+use Rattle.words.proofs.outcome.no_room.Reads as no-room-reads
+use Rattle.words.proofs.outcome.taken.Reads as taken-reads
+use Rattle.yson.proofs.fault_outcome.Reads as fault-outcome-reads
+
+enum-known-answer : tie.Need-enum-known-answer
+enum-known-answer c = search needs
+
+taken-requires : tie.Need-taken-requires
+taken-requires c κs = search needs
+
+enum-known-answer-2 : tie.Need-enum-known-answer-2
+enum-known-answer-2 c = search needs
+
+fault-outcome-requires : tie.Need-fault-outcome-requires
+fault-outcome-requires c κs = search needs
+
+enum-known-answer-3 : tie.Need-enum-known-answer-3
+enum-known-answer-3 c = search needs
+
+no-room-requires : tie.Need-no-room-requires
+no-room-requires c κs = search needs
+
+returns : tie.Need-returns
+returns c = case paper (c .before .before .answer .given .1) (c .taken .ensures)
+
+returns-2 : tie.Need-returns-2
+returns-2 c = case paper (c .before .before .answer2 .given .1) (c .fault-outcome .ensures)
+
+returns-3 : tie.Need-returns-3
+returns-3 c = case paper (c .before .before .answer3 .given .1) (c .no-room .ensures)
+
+pub listed-outcome-spec : {M : Type 1} → statement M
+listed-outcome-spec =
+    tie.close
+    (tie.spec
+    enum-known-answer
+    taken-requires
+    enum-known-answer-2
+    fault-outcome-requires
+    enum-known-answer-3
+    no-room-requires
+    returns
+    returns-2
+    returns-3)
