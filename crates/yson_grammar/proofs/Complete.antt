@@ -96,7 +96,7 @@ module _ (s : List ℕ) where
 
   -- what fits in less room fits in more
   mutual
-    deeper : {room a b : ℕ} → Node s room a b → (n : ℕ) → room ≤ n → Node s n a b
+    pub deeper : {room a b : ℕ} → Node s room a b → (n : ℕ) → room ≤ n → Node s n a b
     deeper (plain o) n h = plain (object-deeper o n h)
     deeper (attributed t i o) zero h = absurd (omega arith)
     deeper (attributed t i o) (suc n) h = attributed t (items-deeper i n (omega arith)) (object-deeper o (suc n) h)

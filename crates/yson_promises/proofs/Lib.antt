@@ -1,0 +1,5 @@
+pub mod Trace
+pub mod Finish
+pub mod Place
+pub mod Fours
+pub mod Yson
