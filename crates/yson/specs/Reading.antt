@@ -1,5 +1,5 @@
--- How an input is read, and what is answered (document 02, A4): 20 or 21 as met, else the items of the outer map, then 17.
--- Assumes nothing.
+-- How an input is read, and what is answered (document 02, A4): 20 or 21 as met, else the items of the outer map, then
+-- 17. Assumes nothing.
 use Prim.Native.Nat.{ℕ, _/_}
 use mathlib.Core.Path.{_≡_}
 use mathlib.Core.List.{List, [], _∷_}

@@ -72,7 +72,8 @@ pairsAt angle at = at
 -- reading the items of a bracket, up to and with its end
 pub record ReadsItems (s : List ℕ) (k : Bracket) (room at : ℕ) (r : Read) : Type 0 where
   pub grows : Grows s at r
-  pub runs : (around : List Bracket) → from s room item (k ∷ around) at ≡ onward (λ e. from s (suc room) (behind k) around e) r
+  pub runs : (around : List Bracket)
+      → from s room item (k ∷ around) at ≡ onward (λ e. from s (suc room) (behind k) around e) r
   pub derived : Derived (λ e b n. (i : Items s k room at e) × (pairsAt k at ≡ b) × (length (entries i) ≡ 4 * n)) r
 
 -- the bracket of pairs that ends with this byte

@@ -1,5 +1,6 @@
-// YSON's binary form (document 02, A4): whether bytes are one node within 64 open brackets, where they fail, and where the items
-// of an outer map begin and end. Node, object, list and pairs call each other, and the remaining depth falls.
+// YSON's binary form (document 02, A4): whether bytes are one node within 64 open brackets, where they fail, and
+// where the items of an outer map begin and end. Node, object, list and pairs call each other, and the remaining depth
+// falls.
 ghost use mathlib.Core.Path.{_≡_};
 ghost use Prim.Native.Nat.{_+_, _<_, _≤_};
 ghost use lib.ListN.{length};
@@ -94,22 +95,22 @@ fn node(s: &[u8], at: usize, depth: usize) -> Read
 fn list(s: &[u8], start: usize, depth: usize) -> Read
     ensures { λ r. ⌜ ReadsItems (now (s .entry)) square depth start r ⌝ }
 {
-    let mut at = start;
+    let mut item = start;
     loop {
-        if byte_at(s, at) == b']' {
-            return Read::Ended(at + 1, 0, 0);
+        if byte_at(s, item) == b']' {
+            return Read::Ended(item + 1, 0, 0);
         }
-        match node(s, at, depth) {
+        match node(s, item, depth) {
             Read::Refused(fault) => return Read::Refused(fault),
             Read::Ended(end, _, _) => {
-                let mark = byte_at(s, end);
-                if mark == b']' {
+                let behind = byte_at(s, end);
+                if behind == b']' {
                     return Read::Ended(end + 1, 0, 0);
                 }
-                if mark != b';' {
+                if behind != b';' {
                     return Read::Refused(Fault::BadYson(end));
                 }
-                at = end + 1;
+                item = end + 1;
             }
         }
     }

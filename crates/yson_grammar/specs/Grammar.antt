@@ -1,5 +1,6 @@
--- The grammar of YSON's binary form, in the order of the public documentation, over the bytes s: which stretches, from an offset to
--- an offset, are a node with so many brackets open inside it at most. Nothing else is a node. Assumes nothing.
+-- The grammar of YSON's binary form, in the order of the public documentation, over the bytes s: which stretches, from
+-- an offset to an offset, are a node with so many brackets open inside it at most. Nothing else is a node.
+-- Assumes nothing.
 use mathlib.Core.Path.{_≡_}
 use mathlib.Core.Bool.{true}
 use mathlib.Core.List.{List}
@@ -16,7 +17,8 @@ mutual
   -- node = object | attributes object
   pub data Node (s : List ℕ) : ℕ → ℕ → ℕ → Type 0 where
     plain : {room a b : ℕ} → Object s room a b → Node s room a b
-    attributed : {room a b c d : ℕ} → Token s (opening angle) a b → Items s angle room b c → Object s (suc room) c d → Node s (suc room) a d
+    attributed : {room a b c d : ℕ} → Token s (opening angle) a b
+        → Items s angle room b c → Object s (suc room) c d → Node s (suc room) a d
 
   -- object = scalar | "[" items | "{" items
   pub data Object (s : List ℕ) : ℕ → ℕ → ℕ → Type 0 where
@@ -28,7 +30,8 @@ mutual
   pub data Items (s : List ℕ) : Bracket → ℕ → ℕ → ℕ → Type 0 where
     none : {k : Bracket} {room a b : ℕ} → Token s (closing k) a b → Items s k room a b
     last : {k : Bracket} {room a b c : ℕ} → Item s k room a b → Token s (closing k) b c → Items s k room a c
-    more : {k : Bracket} {room a b c d : ℕ} → Item s k room a b → Token s separator b c → Items s k room c d → Items s k room a d
+    more : {k : Bracket} {room a b c d : ℕ} → Item s k room a b
+        → Token s separator b c → Items s k room c d → Items s k room a d
 
   -- item = node, in a list; pair, in a map and in attributes
   pub data Item (s : List ℕ) : Bracket → ℕ → ℕ → ℕ → Type 0 where

@@ -1,5 +1,5 @@
--- The place of a failure. Tokens are taken from front to back; beside them stand what is due and the brackets that are open,
--- innermost first. The first token that cannot be taken is the failing one. Assumes nothing.
+-- The place of a failure. Tokens are taken from front to back; beside them stand what is due and the brackets that are
+-- open, innermost first. The first token that cannot be taken is the failing one. Assumes nothing.
 use Prim.Native.Nat.{ℕ, zero, suc, _+_, _-_}
 use mathlib.Core.Bool.{Bool, true, false, _&&_}
 use mathlib.Core.List.{List, [], _∷_}
@@ -35,7 +35,8 @@ behind curly = next
 behind angle = object
 
 unfoldable pub asObject : ℕ → Step
-asObject b = decide (b =? opening square ⇒ enter square ∷ b =? opening curly ⇒ enter curly ∷ scalar b ⇒ go next ∷ []) stop
+asObject b =
+    decide (b =? opening square ⇒ enter square ∷ b =? opening curly ⇒ enter curly ∷ scalar b ⇒ go next ∷ []) stop
 
 unfoldable pub asNode : ℕ → Step
 asNode b = decide (b =? opening angle ⇒ enter angle ∷ []) (asObject b)

@@ -1,5 +1,5 @@
--- The place where an input fails, without the machine: up to it stand whole tokens that begin a good input, and with the token
--- that stands there none begins. Assumes nothing.
+-- The place where an input fails, without the machine: up to it stand whole tokens that begin a good input, and with
+-- the token that stands there none begins. Assumes nothing.
 use mathlib.Core.Path.{_≡_}
 use mathlib.Core.List.{List, _++_}
 use Prim.Native.Nat.{ℕ}

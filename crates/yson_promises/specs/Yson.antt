@@ -18,7 +18,7 @@ Accepted (Items n) = Unit {0}
 Accepted (Broken fault) = ⊥
 Accepted (Short short) = Unit {0}
 
--- "It accepts exactly that grammar": both functions accept what the grammar derives within 64 brackets, and nothing else
+-- "It accepts exactly that grammar": both functions accept what the grammar derives within 64 brackets, nothing else
 abbrev pub AcceptsExactly : Type 0
 AcceptsExactly =
     (s : List ℕ)
@@ -43,10 +43,11 @@ ItemsOfOuterMap =
 
 -- a refusal leaves the table as it was
 abbrev pub RefusalKeeps : Type 0
-RefusalKeeps = (s before after : List ℕ) (r : Listed) → Lists s before r after → ((n : ℕ) → r ≡ Items n → ⊥) → after ≡ before
+RefusalKeeps =
+    (s before after : List ℕ) (r : Listed) → Lists s before r after → ((n : ℕ) → r ≡ Items n → ⊥) → after ≡ before
 
--- "place: the failing token's start, or the input's length where one is missing": 20 and 21 are told exactly by the grammar,
--- and an input fails at one place
+-- "place: the failing token's start, or the input's length where one is missing": 20 and 21 are told exactly by the
+-- grammar, and an input fails at one place
 abbrev pub Place : Type 0
 Place =
     (s : List ℕ)

@@ -9,5 +9,6 @@ use Rattle.yson_token.specs.declared.varint.Varint.the-variants.{Whole, 
 
 -- the varint at `at`, and where it ends; or none that ends by `end`
 abbrev pub ReadsVarint : List ℕ → ℕ → ℕ → Varint → Type 0
-ReadsVarint s at end (Whole value next) = (wholeVarint s at end ≡ true) × (value ≡ varintAt s at) × (next ≡ varintEnd s at)
+ReadsVarint s at end (Whole value next) =
+    (wholeVarint s at end ≡ true) × (value ≡ varintAt s at) × (next ≡ varintEnd s at)
 ReadsVarint s at end Broken = wholeVarint s at end ≡ false

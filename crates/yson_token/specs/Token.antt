@@ -1,5 +1,5 @@
--- The tokens of YSON's binary form (document 02, A4): where the token that begins at an offset ends. A byte past the end of the
--- input counts as 0, which begins no token. Assumes nothing.
+-- The tokens of YSON's binary form (document 02, A4): where the token that begins at an offset ends. A byte past the
+-- end of the input counts as 0, which begins no token. Assumes nothing.
 use Prim.Native.Nat.{ℕ, _+_, _/_, _%_, _^_}
 use mathlib.Core.Bool.{Bool, true}
 use mathlib.Core.List.{List, [], _∷_}

@@ -81,10 +81,10 @@ abbrev pairs-below : ℕ → In 1 pairs-kinds.ps
 pairs-below t = and 1 pairs-kinds.ps (falls 1 pairs-kinds.ps _<_ μ-pairs t) pairs.Pre
 
 abbrev list-Inv-loop : list-lts.InvT-loop
-list-Inv-loop s start depth at₀ at = Passed s square depth start at 0
+list-Inv-loop s start depth item₀ item = Passed s square depth start item 0
 
 abbrev list-μ-loop : list-lts.MeasureT-loop
-list-μ-loop s start depth at₀ at = length s - at
+list-μ-loop s start depth item₀ item = length s - item
 
 list-loop-holds : (t : ℕ) → list-lts.Need-loop-holds (
   byte-at-reads.Asked,
@@ -108,7 +108,7 @@ list-add-t10 : (t : ℕ) → list-lts.Need-add-t10 (
   node-below t,
   node.Post,
 ) (list-at t) list.Post list-Inv-loop list-μ-loop
-list-add-t10 t c = omega (arith, inside (c .before .before .before .before .args .s .now) (c .before .before .loop .at) 92 (sym (c .before .byte-at .ensures) ∙ c .if1 .taken))
+list-add-t10 t c = omega (arith, inside (c .before .before .before .before .args .s .now) (c .before .before .loop .item) 92 (sym (c .before .byte-at .ensures) ∙ c .if1 .taken))
 
 list-returns : (t : ℕ) → list-lts.Need-returns (
   byte-at-reads.Asked,
@@ -182,13 +182,13 @@ list-returns-4 : (t : ℕ) → list-lts.Need-returns-4 (
 ) (list-at t) list.Post list-Inv-loop list-μ-loop
 list-returns-4 t c = items-bad _ square _ _ _ _ (c .before .before .before .before .before .before .before .before .before .loop .inv) _ (listed-ends _ _ _ _ _ _ (λ e. c .before .before .before .before .before .before .before .if1 .left (c .before .before .before .before .before .before .before .before .byte-at .ensures ∙ e)) (rw (c .before .before .before .before .end .given .1) at (c .before .before .before .before .before .before .node .ensures))) (λ e. c .before .if2 .left (c .before .before .byte-at2 .ensures ∙ e)) (λ e. c .if3 .taken (c .before .before .byte-at2 .ensures ∙ e))
 
-list-add-at : (t : ℕ) → list-lts.Need-add-at (
+list-add-item : (t : ℕ) → list-lts.Need-add-item (
   byte-at-reads.Asked,
   byte-at-reads.Learnt,
   node-below t,
   node.Post,
 ) (list-at t) list.Post list-Inv-loop list-μ-loop
-list-add-at t c = omega (arith, inside (c .before .before .before .before .before .before .before .before .before .before .before .args .s .now) (c .before .before .before .before .end .given .0 .0) 58 (sym (c .before .before .byte-at2 .ensures) ∙ c .if3 .left))
+list-add-item t c = omega (arith, inside (c .before .before .before .before .before .before .before .before .before .before .before .args .s .now) (c .before .before .before .before .end .given .0 .0) 58 (sym (c .before .before .byte-at2 .ensures) ∙ c .if3 .left))
 
 list-loop-less : (t : ℕ) → list-lts.Need-loop-less (
   byte-at-reads.Asked,
@@ -804,7 +804,7 @@ pub +list+node+object+pair+pairs-spec : {M : Type 1} → statement M
     (list-add-t13 t)
     (list-returns-3 t)
     (list-returns-4 t)
-    (list-add-at t)
+    (list-add-item t)
     (list-loop-less t)
     (list-loop-again t))
     (λ t. node-lts.spec (
