@@ -43,6 +43,10 @@ mutual
   pub data Pair (s : List ℕ) : ℕ → ℕ → ℕ → Type 0 where
     pair : {room a b c d : ℕ} → Token s stringMark a b → Token s equalsSign b c → Node s room c d → Pair s room a d
 
--- the input is one node within 64 brackets, and nothing else
+-- "down to 64 open brackets of all three kinds"
+abbrev pub mostOpen : ℕ
+mostOpen = 64
+
+-- the input is one node within so many brackets, and nothing else
 abbrev pub Yson : List ℕ → Type 0
-Yson s = Node s 64 0 (length s)
+Yson s = Node s mostOpen 0 (length s)

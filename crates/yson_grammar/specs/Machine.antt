@@ -4,6 +4,7 @@ use Prim.Native.Nat.{ℕ, zero, suc, _+_, _-_}
 use mathlib.Core.Bool.{Bool, true, false, _&&_}
 use mathlib.Core.List.{List, [], _∷_}
 use lib.ListN.{length, getD}
+use Rattle.yson_grammar.specs.Grammar.{mostOpen}
 use Rattle.words.specs.Decide.{pick, decide, _⇒_, _=?_}
 use Rattle.yson_token.specs.Token.{Bracket, square, curly, angle, opening, closing, stringMark, separator, equalsSign, End, end, none, scalar, tokenEnd}
 
@@ -96,6 +97,6 @@ run (suc most) s room due around at = after (run most s) s room due around at (t
 abbrev pub from : List ℕ → ℕ → Due → List Bracket → ℕ → Verdict
 from s room due around at = run (suc (length s - at)) s room due around at
 
--- one node within 64 brackets, and nothing behind it
+-- one node within the brackets that may be open, and nothing behind it
 abbrev pub verdict : List ℕ → Verdict
-verdict s = from s 64 node [] 0
+verdict s = from s mostOpen node [] 0

@@ -2,4 +2,5 @@ pub mod Trace
 pub mod Finish
 pub mod Place
 pub mod Fours
+pub mod Stretches
 pub mod Yson

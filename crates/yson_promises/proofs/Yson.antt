@@ -29,7 +29,8 @@ use Rattle.yson.specs.declared.Listed.the-variants.{Items, Broken, Short}
 use Rattle.yson.specs.declared.Fault.{Fault}
 use Rattle.yson.specs.declared.Fault.the-variants.{BadYson, TooDeep}
 use Rattle.yson_promises.specs.Place.{BadAt, DeepAt, Fails}
-use Rattle.yson_promises.specs.Yson.{Accepted, AcceptsExactly, OneExtent, AcceptedWhole, ItemsOfOuterMap, RefusalKeeps, Place}
+use Rattle.yson_promises.specs.Yson.{Accepted, AcceptsExactly, OneExtent, AcceptedWhole, ItemsOfOuterMap, KeysAndValues, RefusalKeeps, Place}
+use Rattle.yson_promises.proofs.Stretches.{yson-stretches}
 use Rattle.yson_promises.proofs.Fours.{four-words}
 use Rattle.yson_promises.proofs.Place.{verdict-fails, sorted, one-place}
 
@@ -162,6 +163,12 @@ pub yson-items : ItemsOfOuterMap
 yson-items s before after n l d =
     let x = listed-by s before after n (l .0) (l .1) (l .2) d in
     (x .0, omega (arith, roomy s before after n (l .0) (l .1)), x .1)
+
+pub yson-keys-and-values : KeysAndValues
+yson-keys-and-values s before after n l =
+    let d = yson-accepts-exactly s .1 before after (Items n) l .0 tt in
+    let x = yson-items s before after n l d in
+    (outer d, x .0, x .2, yson-stretches s d)
 
 pub yson-refusal-keeps : RefusalKeeps
 yson-refusal-keeps s before after r l differs = keeps s before after r (l .0) differs (l .1) (l .2)

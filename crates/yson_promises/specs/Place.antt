@@ -2,10 +2,10 @@
 -- the token that stands there none begins. Assumes nothing.
 use mathlib.Core.Path.{_≡_}
 use mathlib.Core.List.{List, _++_}
-use Prim.Native.Nat.{ℕ}
+use Prim.Native.Nat.{ℕ, suc}
 use lib.ListN.{length, take}
 use Rattle.yson_token.specs.Token.{End, end, tokenEnd}
-use Rattle.yson_grammar.specs.Grammar.{Node, Yson}
+use Rattle.yson_grammar.specs.Grammar.{Node, mostOpen, Yson}
 
 -- the input's tokens from its front up to here are whole
 pub data Reached (s : List ℕ) : ℕ → Type 0 where
@@ -20,8 +20,8 @@ Begins room xs = (ys : List ℕ) × Node (xs ++ ys) room 0 (length (xs ++ ys))
 pub record Fails (s : List ℕ) (place : ℕ) : Type 0 where
   pub broken : Yson s → ⊥
   pub reached : Reached s place
-  pub begins : Begins 64 (take place s)
-  pub stops : (e : ℕ) → tokenEnd s place ≡ end e → Begins 64 (take e s) → ⊥
+  pub begins : Begins mostOpen (take place s)
+  pub stops : (e : ℕ) → tokenEnd s place ≡ end e → Begins mostOpen (take e s) → ⊥
 
 -- 20: however deep brackets might stand
 abbrev pub BadAt : List ℕ → ℕ → Type 0
@@ -29,4 +29,4 @@ BadAt s place = Fails s place × ((room e : ℕ) → tokenEnd s place ≡ end e 
 
 -- 21: with one bracket more it could go on
 abbrev pub DeepAt : List ℕ → ℕ → Type 0
-DeepAt s place = Fails s place × ((e : ℕ) × (tokenEnd s place ≡ end e) × Begins 65 (take e s))
+DeepAt s place = Fails s place × ((e : ℕ) × (tokenEnd s place ≡ end e) × Begins (suc mostOpen) (take e s))
