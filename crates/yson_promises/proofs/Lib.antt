@@ -4,3 +4,4 @@ pub mod Place
 pub mod Fours
 pub mod Stretches
 pub mod Yson
+pub mod Examples
