@@ -7,7 +7,7 @@ ghost use lib.ListN.{length};
 ghost use Rattle.words.specs.Paper.{Tells};
 ghost use Rattle.yson_token.specs.Token.{square, closing};
 ghost use Rattle.yson_grammar.specs.Machine as Machine;
-ghost use Rattle.yson.specs.Paper.{paper, faultPaper};
+ghost use Rattle.yson.specs.Paper.{paper};
 ghost use Rattle.yson.specs.Statement.{Checks, Lists};
 ghost use Rattle.yson.specs.Stages.{keyed, Reads, ReadsItems, ReadsPair, ReadsWhole, Stores, Ready, Fills};
 use words::outcome::NoRoom;
@@ -240,23 +240,16 @@ pub fn items(s: &[u8], table: &mut [u64]) -> Listed
     }
 }
 
-// A fault by its number.
-fn fault_outcome(fault: Fault) -> Outcome
-    ensures { λ r. ⌜ Tells (faultPaper fault) r ⌝ }
-{
-    match fault {
-        Fault::BadYson(place) => refusal(20, 0, place as u64, 0, 0),
-        Fault::TooDeep(place) => refusal(21, 0, place as u64, 0, 0),
-    }
-}
-
 // The answer in words.
 pub fn listed_outcome(answer: Listed) -> Outcome
     ensures { λ r. ⌜ Tells (paper answer) r ⌝ }
 {
     match answer {
         Listed::Items(items) => taken(0, items as u64, 0, 0),
-        Listed::Broken(fault) => fault_outcome(fault),
+        Listed::Broken(fault) => match fault {
+            Fault::BadYson(place) => refusal(20, 0, place as u64, 0, 0),
+            Fault::TooDeep(place) => refusal(21, 0, place as u64, 0, 0),
+        },
         Listed::Short(short) => no_room(short),
     }
 }

@@ -1,3 +1,4 @@
+-- Laws of the machine, and its equality with the grammar.
 pub mod RunLaws
 pub mod Complete
 pub mod Sound

@@ -1,3 +1,4 @@
+-- The promises, from the traces of the machine up.
 pub mod Trace
 pub mod Finish
 pub mod Place

@@ -1,3 +1,4 @@
+-- Laws of varints and tokens, which the proofs of this crate and of those above cite.
 pub mod VarintLaws
 pub mod ReadLaws
 pub mod TokenLaws

@@ -1,3 +1,4 @@
+-- `varint::read_varint` meets its contract. Assumes nothing.
 use Rattle.yson_token.proofs.VarintLaws.{past-input}
 use borrow.Author.Needs.{needs}
 use Rattle.yson_token.proofs.varint.read_varint.Statement.{statement}
