@@ -13,6 +13,7 @@ use Rattle.words.specs.declared.outcome.NoRoom.{NoRoom}
 use Rattle.words.specs.declared.outcome.Room.the-variants.{Items as ItemRoom}
 use Rattle.yson_grammar.specs.Grammar.{Yson}
 use Rattle.yson_grammar.specs.Items.{outer}
+use Rattle.yson_grammar.proofs.Place.{bad-there, deep-there}
 use Rattle.yson.specs.Reading.{Reading, good, bad, deep, wordsOf, count, checking, listing}
 use Rattle.yson.specs.Statement.{Checks, Lists}
 use Rattle.yson.specs.Stages.{ReadsWhole, Ready, Fills}
@@ -24,8 +25,8 @@ use Rattle.yson.proofs.FillLaws.{ready, filled-words}
 
 module _ (s : List ℕ) where
   pub checks-broken : (q : Fault) → ReadsWhole s (Refused q) → Checks s (Broken q)
-  checks-broken (BadYson p) e = (bad p (sym e), refl)
-  checks-broken (TooDeep p) e = (deep p (sym e), refl)
+  checks-broken (BadYson p) e = (bad p (bad-there s p (sym e)), refl)
+  checks-broken (TooDeep p) e = (deep p (deep-there s p (sym e)), refl)
 
   counted : (d : Yson s) (n : ℕ) → length (outer d) ≡ 4 * n → n ≡ count d
   counted d n sized = omega (arith, sized)
@@ -35,8 +36,8 @@ module _ (s : List ℕ) where
 
   module _ (before : List ℕ) where
     pub lists-broken : (q : Fault) → ReadsWhole s (Refused q) → Lists s before (Broken q) before
-    lists-broken (BadYson p) e = (bad p (sym e), refl, refl)
-    lists-broken (TooDeep p) e = (deep p (sym e), refl, refl)
+    lists-broken (BadYson p) e = (bad p (bad-there s p (sym e)), refl, refl)
+    lists-broken (TooDeep p) e = (deep p (deep-there s p (sym e)), refl, refl)
 
     module _ (e b n : ℕ) (r : ReadsWhole s (Ended e b n)) where
       pub lists-short : length before / 4 < n → Lists s before (Short (record { room = ItemRoom; needed = n; given = length before / 4 })) before

@@ -12,7 +12,7 @@ use Rattle.yson_token.proofs.TokenLaws.{mark-end}
 use Rattle.yson_grammar.specs.Grammar.{Token, Node, plain, attributed, Object, single, list, map, Items, more, last, Item, listed, mapped, named, Pair, pair, Yson}
 use Rattle.yson_grammar.specs.Grammar as Grammar
 use Rattle.yson_grammar.specs.Items.{places, entry, entries, ofObject, outer}
-use Rattle.yson_grammar.specs.Machine.{good, bad, deep, item, next, from}
+use Rattle.yson_grammar.specs.Stages.{good, bad, deep, item, next, from}
 use Rattle.yson_grammar.proofs.RunLaws.{end-good}
 use Rattle.yson_grammar.proofs.Complete.{items-pass}
 use Rattle.yson_grammar.proofs.Sound.{bad-good, deep-good}

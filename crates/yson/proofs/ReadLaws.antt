@@ -12,7 +12,7 @@ use Rattle.yson_token.proofs.TokenLaws.{Bounded, scalar-bounded, scalar-token, 
 use Rattle.yson_grammar.specs.Grammar.{Token, Node, plain, attributed, Object, single, list, map, Items, more, last, Item, listed, mapped, named, Pair, pair}
 use Rattle.yson_grammar.specs.Grammar as Grammar
 use Rattle.yson_grammar.specs.Items.{places, entry, entries, ofObject, outer}
-use Rattle.yson_grammar.specs.Machine.{Due, node, object, item, next, equals, Verdict, good, bad, deep, behind, from, verdict}
+use Rattle.yson_grammar.specs.Stages.{Due, node, object, item, next, equals, Verdict, good, bad, deep, behind, from, verdict}
 use Rattle.yson_grammar.proofs.RunLaws.{object-list, object-map, object-list-deep, object-map-deep, object-scalar, object-none, node-attributes, node-deep, node-object, item-close, item-node, next-close, next-more, next-bad, key-found, key-none, key-text, equals-node, equals-bad, end-good, end-bad}
 use Rattle.yson_grammar.proofs.Complete.{derived-good}
 use Rattle.yson.specs.Stages.{faulty, onward, onwardPair, Grows, mapAt, mapIn, Shape, Derived, Reads, pairsAt, ReadsItems, keyed, PairGrows, four, PairDerived, ReadsPair, ReadsWhole}

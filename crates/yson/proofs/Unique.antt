@@ -3,7 +3,6 @@
 use mathlib.Core.Path.{_≡_, refl, sym, _∙_, ap}
 use mathlib.Core.List.{List, [], _∷_}
 use Prim.Native.Nat.{ℕ, _/_}
-use native.Mathlib.Omega.{arith}
 use lib.ListN.{length, getD}
 use Rattle.words.specs.Answer.{Answer, accepted, more, refused, afterwards}
 use Rattle.words.specs.Decide.{_=?_, _⇒_, decide}
@@ -14,9 +13,7 @@ use Rattle.words.proofs.Unique.{equal-to-one, means-one}
 use Rattle.words.proofs.PaperLaws.{noRoomOf, no-room-back}
 use Rattle.yson_grammar.specs.Grammar.{Yson}
 use Rattle.yson_grammar.specs.Items.{outer}
-use Rattle.yson_grammar.specs.Machine as Machine
-use Rattle.yson_grammar.proofs.Complete.{derived-good}
-use Rattle.yson_grammar.proofs.Sound.{bad-good, deep-good}
+use Rattle.yson_grammar.proofs.Place.{one-place, not-both}
 use Rattle.yson_grammar.proofs.OneListing.{outer-same}
 use Rattle.yson.specs.Reading.{Reading, good, bad, deep, wordsOf, count, checking, listing}
 use Rattle.yson.specs.Paper.{paper}
@@ -43,15 +40,6 @@ listed-back (Broken (TooDeep p)) = refl
 listed-back (Short short) = ap Short (no-room-back short)
 
 module _ (s : List ℕ) where
-  bad-same : {p q : ℕ} → Machine.bad p ≡ Machine.bad q → p ≡ q
-  bad-same e = cc
-
-  deep-same : {p q : ℕ} → Machine.deep p ≡ Machine.deep q → p ≡ q
-  deep-same e = cc
-
-  bad-deep : {p q : ℕ} → Machine.bad p ≡ Machine.deep q → ⊥
-  bad-deep e = let z : _≡_ {A = ℕ} 0 1 = cc in omega arith
-
   -- what two readings of one input share
   pub record Same (x y : Reading s) : Type 0 where
     pub words : wordsOf x ≡ wordsOf y
@@ -67,14 +55,14 @@ module _ (s : List ℕ) where
         checked = ap (λ (n : ℕ). accepted 0 (n ∷ [])) counts;
         listed = λ room. ap (λ (n : ℕ). decide (roomLine ItemRoom n room ∷ []) (accepted 0 (n ∷ []))) counts;
       }
-  one-reading (good d) (bad q f) = absurd (bad-good s (sym f ∙ derived-good s d))
-  one-reading (good d) (deep q f) = absurd (deep-good s (sym f ∙ derived-good s d))
-  one-reading (bad p e) (good d) = absurd (bad-good s (sym e ∙ derived-good s d))
-  one-reading (bad p e) (bad q f) = let same : p ≡ q = bad-same (sym e ∙ f) in record { words = refl; checked = cc; listed = λ room. cc }
-  one-reading (bad p e) (deep q f) = absurd (bad-deep (sym e ∙ f))
-  one-reading (deep p e) (good d) = absurd (deep-good s (sym e ∙ derived-good s d))
-  one-reading (deep p e) (bad q f) = absurd (bad-deep (sym f ∙ e))
-  one-reading (deep p e) (deep q f) = let same : p ≡ q = deep-same (sym e ∙ f) in record { words = refl; checked = cc; listed = λ room. cc }
+  one-reading (good d) (bad q f) = absurd (f .0 .broken d)
+  one-reading (good d) (deep q f) = absurd (f .0 .broken d)
+  one-reading (bad p e) (good d) = absurd (e .0 .broken d)
+  one-reading (bad p e) (bad q f) = let same : p ≡ q = one-place s p q (e .0) (f .0) in record { words = refl; checked = cc; listed = λ room. cc }
+  one-reading (bad p e) (deep q f) = absurd (not-both s p q e f)
+  one-reading (deep p e) (good d) = absurd (e .0 .broken d)
+  one-reading (deep p e) (bad q f) = absurd (not-both s q p f e)
+  one-reading (deep p e) (deep q f) = let same : p ≡ q = one-place s p q (e .0) (f .0) in record { words = refl; checked = cc; listed = λ room. cc }
 
   pub check-unique : OneResult (Checks s)
   check-unique r r′ p q =

@@ -1,7 +1,6 @@
 -- How an input is read, and what is answered (document 02, A4): 20 or 21 as met, else the items of the outer map, then
 -- 17. Assumes nothing.
 use Prim.Native.Nat.{ℕ, _/_}
-use mathlib.Core.Path.{_≡_}
 use mathlib.Core.List.{List, [], _∷_}
 use lib.ListN.{length}
 use Rattle.words.specs.Answer.{Answer, accepted, refuse}
@@ -10,13 +9,13 @@ use Rattle.words.specs.Paper.{roomLine}
 use Rattle.words.specs.declared.outcome.Room.the-variants.{Items}
 use Rattle.yson_grammar.specs.Grammar.{Yson}
 use Rattle.yson_grammar.specs.Items.{outer}
-use Rattle.yson_grammar.specs.Machine as Machine
+use Rattle.yson_grammar.specs.Place.{BadAt, DeepAt}
 
--- one node, by its derivation, or a failing token's place
+-- one node, by its derivation, or the place of a failing token
 pub data Reading (s : List ℕ) : Type 0 where
   good : Yson s → Reading s
-  bad : (place : ℕ) → Machine.verdict s ≡ Machine.bad place → Reading s
-  deep : (place : ℕ) → Machine.verdict s ≡ Machine.deep place → Reading s
+  bad : (place : ℕ) → BadAt s place → Reading s
+  deep : (place : ℕ) → DeepAt s place → Reading s
 
 -- an item has four words
 abbrev pub wordsOf : {s : List ℕ} → Reading s → List ℕ

@@ -9,7 +9,7 @@ use Rattle.words.specs.Decide.{pick, _=?_}
 use Rattle.yson_token.specs.Token.{Bracket, square, curly, angle, closing}
 use Rattle.yson_grammar.specs.Grammar.{Node, plain, attributed, Object, single, list, map, Items, Pair, Yson}
 use Rattle.yson_grammar.specs.Items.{places, entries, ofObject, outer}
-use Rattle.yson_grammar.specs.Machine.{Due, Verdict, bad, deep, next, object, node, item, equals, from, verdict, behind}
+use Rattle.yson_grammar.specs.Stages.{Due, Verdict, bad, deep, next, object, node, item, equals, from, verdict, behind}
 use Rattle.yson.specs.declared.Fault.{Fault}
 use Rattle.yson.specs.declared.Fault.the-variants.{BadYson, TooDeep}
 use Rattle.yson.specs.declared.Read.{Read}

@@ -6,7 +6,7 @@ ghost use Prim.Native.Nat.{_+_, _<_, _≤_};
 ghost use lib.ListN.{length};
 ghost use Rattle.words.specs.Paper.{Tells};
 ghost use Rattle.yson_token.specs.Token.{square, closing};
-ghost use Rattle.yson_grammar.specs.Machine as Machine;
+ghost use Rattle.yson_grammar.specs.Stages as Machine;
 ghost use Rattle.yson.specs.Paper.{paper};
 ghost use Rattle.yson.specs.Statement.{Checks, Lists};
 ghost use Rattle.yson.specs.Stages.{keyed, Reads, ReadsItems, ReadsPair, ReadsWhole, Stores, Ready, Fills};

@@ -12,7 +12,7 @@ use Rattle.yson_token.specs.Token.{End, end, none, punctuation, scalar, scalarE
 use Rattle.yson_token.specs.Token.{Bracket, square, curly, angle, closing}
 use Rattle.yson_grammar.specs.Grammar.{Token, Node, plain, attributed, Object, single, list, map, Items, more, last, Item, listed, mapped, named, Pair, pair, Yson}
 use Rattle.yson_grammar.specs.Grammar as Grammar
-use Rattle.yson_grammar.specs.Machine.{Due, node, object, item, next, equals, Step, stop, go, enter, leave, behind, asObject, asNode, asKey, step, Verdict, good, bad, deep, complete, outer, taken, from, verdict}
+use Rattle.yson_grammar.specs.Stages.{Due, node, object, item, next, equals, Step, stop, go, enter, leave, behind, asObject, asNode, asKey, step, Verdict, good, bad, deep, complete, outer, taken, from, verdict}
 use Rattle.yson_grammar.proofs.RunLaws.{token-taken, node-object, item-node, end-good, end-bad, same-or-other}
 
 module _ (s : List ℕ) where

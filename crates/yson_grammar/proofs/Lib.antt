@@ -3,4 +3,7 @@ pub mod RunLaws
 pub mod Complete
 pub mod Sound
 pub mod OneListing
+pub mod Trace
+pub mod Finish
+pub mod Place
 pub mod Examples

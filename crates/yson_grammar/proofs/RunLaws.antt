@@ -10,7 +10,7 @@ use lib.ListN.{length, getD}
 use Rattle.words.specs.Decide.{pick, Line, _⇒_, decide, _<?_, _=?_}
 use Rattle.yson_token.specs.Token.{End, end, none, punctuation, scalar, textEnd, scalarEnd, tokenEnd, keyEnd}
 use Rattle.yson_token.specs.Token.{Bracket, square, curly, angle, closing}
-use Rattle.yson_grammar.specs.Machine.{Due, node, object, item, next, equals, Step, stop, go, enter, leave, behind, asObject, asNode, asKey, step, Verdict, good, bad, deep, complete, outer, taken, after, run, from, verdict}
+use Rattle.yson_grammar.specs.Stages.{Due, node, object, item, next, equals, Step, stop, go, enter, leave, behind, asObject, asNode, asKey, step, Verdict, good, bad, deep, complete, outer, taken, after, run, from, verdict}
 use Rattle.yson_token.proofs.ScalarLaws.{scalar-text}
 use Rattle.yson_token.proofs.TokenLaws.{Bounded, token-bounded, mark-end, scalar-token, mark-not-scalar}
 

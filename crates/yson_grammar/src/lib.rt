@@ -1,2 +1,2 @@
-// No code: the grammar of YSON's binary form, the machine over its tokens that says where an input fails, and the proof
-// that the machine accepts what the grammar derives (specs/, proofs/).
+// No code: the grammar of YSON's binary form and the place where an input fails, a machine over tokens that the code
+// follows, and the proof that grammar and machine agree (specs/, proofs/).

@@ -13,13 +13,9 @@ use Rattle.words.specs.Paper.{noRoom}
 use Rattle.words.specs.declared.outcome.Room.the-variants.{Items as ItemRoom}
 use Rattle.words.proofs.AnswerLaws.{refused-not-accepted}
 use Rattle.words.proofs.DecideLaws.{pick-case}
-use Rattle.yson_token.specs.Token.{tokenEnd}
 use Rattle.yson_grammar.specs.Grammar.{Node, Yson}
 use Rattle.yson_grammar.specs.Items.{outer}
-use Rattle.yson_grammar.specs.Machine.{Verdict, verdict}
-use Rattle.yson_grammar.specs.Machine as Machine
-use Rattle.yson_grammar.proofs.Complete.{one-extent, derived-good}
-use Rattle.yson_grammar.proofs.Sound.{good-derived, bad-good, deep-good}
+use Rattle.yson_grammar.proofs.Complete.{one-extent}
 use Rattle.yson_grammar.proofs.OneListing.{outer-same}
 use Rattle.yson.specs.Reading.{Reading, good, bad, deep, wordsOf, count, checking, listing}
 use Rattle.yson.specs.Paper.{paper, faultPaper}
@@ -28,11 +24,11 @@ use Rattle.yson.specs.declared.Listed.{Listed}
 use Rattle.yson.specs.declared.Listed.the-variants.{Items, Broken, Short}
 use Rattle.yson.specs.declared.Fault.{Fault}
 use Rattle.yson.specs.declared.Fault.the-variants.{BadYson, TooDeep}
-use Rattle.yson_promises.specs.Place.{BadAt, DeepAt, Fails}
+use Rattle.yson_grammar.specs.Place.{BadAt, DeepAt, Fails}
 use Rattle.yson_promises.specs.Yson.{Accepted, AcceptsExactly, OneExtent, AcceptedWhole, ItemsOfOuterMap, KeysAndValues, RefusalKeeps, Place}
 use Rattle.yson_promises.proofs.Stretches.{yson-stretches}
 use Rattle.yson_promises.proofs.Fours.{four-words}
-use Rattle.yson_promises.proofs.Place.{verdict-fails, sorted, one-place}
+use Rattle.yson_grammar.proofs.Place.{one-place}
 
 -- the number of a refusal, 0 of what is accepted
 numberOf : Answer → ℕ
@@ -75,11 +71,11 @@ module _ (s : List ℕ) where
   )
   exactly (bad p is) a r e n = (
     (λ ok. absurd (other 20 (λ z. omega arith) (λ z. omega arith) (accepted-number r ok) (ap numberOf e ∙ n))),
-    (λ yes. absurd (bad-good s (sym is ∙ derived-good s yes))),
+    (λ yes. absurd (is .0 .broken yes)),
   )
   exactly (deep p is) a r e n = (
     (λ ok. absurd (other 21 (λ z. omega arith) (λ z. omega arith) (accepted-number r ok) (ap numberOf e ∙ n))),
-    (λ yes. absurd (deep-good s (sym is ∙ derived-good s yes))),
+    (λ yes. absurd (is .0 .broken yes)),
   )
 
   checking-number : (x : Reading s) → AsRead x (numberOf (checking x))
@@ -179,41 +175,19 @@ module _ (s : List ℕ) where
   value-same : {number number′ p q : ℕ} → refuse number (p ∷ []) ≡ refuse number′ (q ∷ []) → (number ≡ number′) × (p ≡ q)
   value-same e = (cc, cc)
 
-  checks-bad : (p : ℕ) → Checks s (Broken (BadYson p)) → verdict s ≡ Machine.bad p
+  checks-bad : (p : ℕ) → Checks s (Broken (BadYson p)) → BadAt s p
   checks-bad p (good d, e) = absurd (refused-not-accepted 20 _ 0 0 _ e)
-  checks-bad p (bad q is, e) = is ∙ ap Machine.bad (sym (value-same e .1))
+  checks-bad p (bad q is, e) = subst (BadAt s) (sym (value-same e .1)) is
   checks-bad p (deep q is, e) = absurd (omega (arith, value-same e .0))
 
-  checks-deep : (p : ℕ) → Checks s (Broken (TooDeep p)) → verdict s ≡ Machine.deep p
+  checks-deep : (p : ℕ) → Checks s (Broken (TooDeep p)) → DeepAt s p
   checks-deep p (good d, e) = absurd (refused-not-accepted 21 _ 0 0 _ e)
   checks-deep p (bad q is, e) = absurd (omega (arith, value-same e .0))
-  checks-deep p (deep q is, e) = is ∙ ap Machine.deep (sym (value-same e .1))
-
-  bad-there : (p : ℕ) → verdict s ≡ Machine.bad p → BadAt s p
-  bad-there p is = sorted s (Machine.bad p) is (rw is at (verdict-fails s))
-
-  deep-there : (p : ℕ) → verdict s ≡ Machine.deep p → DeepAt s p
-  deep-there p is = sorted s (Machine.deep p) is (rw is at (verdict-fails s))
-
-  bad-told : (p : ℕ) → BadAt s p → (v : Verdict) → verdict s ≡ v → v ≡ Machine.bad p
-  bad-told p b Machine.good is = absurd (b .0 .broken (good-derived s is))
-  bad-told p b (Machine.bad q) is = ap Machine.bad (one-place s q p (bad-there q is .0) (b .0))
-  bad-told p b (Machine.deep q) is =
-      let d = deep-there q is in
-      let same : q ≡ p = one-place s q p (d .0) (b .0) in
-      absurd (b .1 65 (d .1 .0) (ap (tokenEnd s) (sym same) ∙ d .1 .1) (d .1 .2))
-
-  deep-told : (p : ℕ) → DeepAt s p → (v : Verdict) → verdict s ≡ v → v ≡ Machine.deep p
-  deep-told p d Machine.good is = absurd (d .0 .broken (good-derived s is))
-  deep-told p d (Machine.bad q) is =
-      let b = bad-there q is in
-      let same : q ≡ p = one-place s q p (b .0) (d .0) in
-      absurd (b .1 65 (d .1 .0) (ap (tokenEnd s) same ∙ d .1 .1) (d .1 .2))
-  deep-told p d (Machine.deep q) is = ap Machine.deep (one-place s q p (deep-there q is .0) (d .0))
+  checks-deep p (deep q is, e) = subst (DeepAt s) (sym (value-same e .1)) is
 
 pub yson-place : Place
 yson-place s = (
-  (λ p. ((λ c. bad-there s p (checks-bad s p c)), (λ b. (bad p (bad-told s p b (verdict s) refl), refl)))),
-  (λ p. ((λ c. deep-there s p (checks-deep s p c)), (λ d. (deep p (deep-told s p d (verdict s) refl), refl)))),
+  (λ p. (checks-bad s p, (λ b. (bad p b, refl)))),
+  (λ p. (checks-deep s p, (λ d. (deep p d, refl)))),
   one-place s,
 )

@@ -11,7 +11,7 @@ use Rattle.yson.specs.Statement.{Checks, Lists}
 use Rattle.yson.specs.declared.Listed.{Listed}
 use Rattle.yson.specs.declared.Listed.the-variants.{Items, Broken, Short}
 use Rattle.yson.specs.declared.Fault.the-variants.{BadYson, TooDeep}
-use Rattle.yson_promises.specs.Place.{BadAt, DeepAt, Fails}
+use Rattle.yson_grammar.specs.Place.{BadAt, DeepAt, Fails}
 
 -- accepted, room aside
 abbrev pub Accepted : Listed → Type 0

@@ -12,9 +12,9 @@ use Rattle.words.proofs.DecideLaws.{pick-case}
 use Rattle.yson_token.specs.Token.{Bracket, square, curly, angle, opening, closing, stringMark, separator, equalsSign, End, end, none, scalar, tokenEnd}
 use Rattle.yson_token.proofs.TokenLaws.{Lines, decide-all, Bounded, token-bounded}
 use Rattle.yson_token.proofs.LocalLaws.{Alike, shorter, token-same}
-use Rattle.yson_grammar.specs.Machine.{Due, node, object, item, next, equals, Step, stop, go, enter, leave, behind, asObject, asNode, asKey, step, Verdict, good, bad, deep, complete, outer, taken, after, run, from, verdict}
+use Rattle.yson_grammar.specs.Stages.{Due, node, object, item, next, equals, Step, stop, go, enter, leave, behind, asObject, asNode, asKey, step, Verdict, good, bad, deep, complete, outer, taken, after, run, from, verdict}
 use Rattle.yson_grammar.proofs.RunLaws.{token-taken}
-use Rattle.yson_promises.specs.Place.{Reached, start, on}
+use Rattle.yson_grammar.specs.Place.{Reached, start, on}
 
 -- from a node due at 0, with so much room, to this state
 pub data Trace (s : List ℕ) (whole : ℕ) : ℕ → Due → List Bracket → ℕ → Type 0 where

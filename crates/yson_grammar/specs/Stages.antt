@@ -1,5 +1,6 @@
--- The place of a failure. Tokens are taken from front to back; beside them stand what is due and the brackets that are
--- open, innermost first. The first token that cannot be taken is the failing one. Assumes nothing.
+-- A machine over tokens, which the private functions of `yson` follow: what is due, and the brackets that are open,
+-- innermost first; the first token that cannot be taken is the failing one. It need not be believed: what it says of a
+-- place is proved of `Place.antt`, which knows no machine. Assumes nothing.
 use Prim.Native.Nat.{ℕ, zero, suc, _+_, _-_}
 use mathlib.Core.Bool.{Bool, true, false, _&&_}
 use mathlib.Core.List.{List, [], _∷_}

@@ -9,12 +9,12 @@ use lib.ListN.{length, getD, take, length-append}
 use lib.Seq.{length-take-le, getD-append-add}
 use Rattle.yson_token.specs.Token.{Bracket, square, curly, angle, closing, entityMark, equalsSign, End, end, scalarEnd}
 use Rattle.yson_token.proofs.ScalarLaws.{scalar-entity}
 use Rattle.yson_grammar.specs.Grammar.{Node}
-use Rattle.yson_grammar.specs.Machine.{Due, node, object, item, next, equals, good, behind, from}
+use Rattle.yson_grammar.specs.Stages.{Due, node, object, item, next, equals, good, behind, from}
 use Rattle.yson_grammar.proofs.RunLaws.{object-scalar, node-object, item-close, next-close, equals-node, end-good}
 use Rattle.yson_grammar.proofs.Sound.{After, Rest, accepts}
-use Rattle.yson_promises.specs.Place.{Begins}
-use Rattle.yson_promises.proofs.Trace.{Trace, trace-runs, trace-moved, front-alike, Held, trace-held}
+use Rattle.yson_grammar.specs.Place.{Begins}
+use Rattle.yson_grammar.proofs.Trace.{Trace, trace-runs, trace-moved, front-alike, Held, trace-held}
 
 abbrev closers : List Bracket → List ℕ
 closers [] = []

@@ -12,14 +12,14 @@ use Rattle.words.proofs.DecideLaws.{pick-case, le-or-gt}
 use Rattle.yson_token.specs.Token.{Bracket, End, end, none, tokenEnd}
 use Rattle.yson_token.proofs.TokenLaws.{Bounded, token-bounded}
 use Rattle.yson_token.proofs.LocalLaws.{Alike, shorter, token-same}
 use Rattle.yson_grammar.specs.Grammar.{Node, Yson}
-use Rattle.yson_grammar.specs.Machine.{Due, node, object, item, next, equals, Step, stop, go, enter, leave, step, Verdict, good, bad, deep, complete, outer, taken, after, run, from, verdict}
+use Rattle.yson_grammar.specs.Stages.{Due, node, object, item, next, equals, Step, stop, go, enter, leave, step, Verdict, good, bad, deep, complete, outer, taken, after, run, from, verdict}
 use Rattle.yson_grammar.proofs.RunLaws.{token-taken, end-good, none-not-end}
 use Rattle.yson_grammar.proofs.Complete.{node-passes, deeper, derived-good}
 use Rattle.yson_grammar.proofs.Sound.{bad-good, deep-good}
-use Rattle.yson_promises.specs.Place.{Reached, start, on, Begins, Fails, BadAt, DeepAt}
-use Rattle.yson_promises.proofs.Trace.{Trace, begin, goes, enters, leaves, trace-reached, trace-runs, trace-moved, front-alike}
-use Rattle.yson_promises.proofs.Finish.{trace-begins}
+use Rattle.yson_grammar.specs.Place.{Reached, start, on, Begins, Fails, BadAt, DeepAt}
+use Rattle.yson_grammar.proofs.Trace.{Trace, begin, goes, enters, leaves, trace-reached, trace-runs, trace-moved, front-alike}
+use Rattle.yson_grammar.proofs.Finish.{trace-begins}
 
 module _ (s : List ℕ) where
   -- why the machine stops in a state: no whole token stands there, or one that cannot be taken
@@ -211,3 +211,16 @@ module _ (s : List ℕ) where
     where
       same : p ≤ q → q ≤ p → p ≡ q
       same h k = omega arith
+
+-- What the machine says, without the machine; and that the two numbers exclude each other.
+module _ (s : List ℕ) where
+  pub bad-there : (p : ℕ) → verdict s ≡ bad p → BadAt s p
+  bad-there p is = sorted s (bad p) is (rw is at (verdict-fails s))
+
+  pub deep-there : (p : ℕ) → verdict s ≡ deep p → DeepAt s p
+  deep-there p is = sorted s (deep p) is (rw is at (verdict-fails s))
+
+  pub not-both : (p q : ℕ) → BadAt s p → DeepAt s q → ⊥
+  not-both p q b d =
+      let same : p ≡ q = one-place s p q (b .0) (d .0) in
+      b .1 65 (d .1 .0) (ap (tokenEnd s) same ∙ d .1 .1) (d .1 .2)
