@@ -1,20 +1,17 @@
 -- What each public function answers, one law for each of its returns. Assumes nothing.
 use mathlib.Core.Path.{_≡_, refl, sym, _∙_, ap}
 use mathlib.Core.List.{List, [], _∷_}
-use Prim.Native.Nat.{ℕ, _+_, _*_, _/_, _<_, _≤_}
+use Prim.Native.Nat.{ℕ, _*_, _/_, _<_, _≤_}
 use native.Mathlib.Omega.{arith}
 use borrow.Author.Tests.{lt-ltb, le-ltb}
 use lib.ListN.{length}
-use Rattle.words.specs.Answer.{Answer, accepted, refuse, afterwards}
-use Rattle.words.specs.Buffer.{over}
-use Rattle.words.specs.Decide.{_<?_}
+use Rattle.words.specs.Answer.{Answer, accepted, afterwards}
 use Rattle.words.specs.Paper.{noRoom}
-use Rattle.words.specs.declared.outcome.NoRoom.{NoRoom}
 use Rattle.words.specs.declared.outcome.Room.the-variants.{Items as ItemRoom}
 use Rattle.yson_grammar.specs.Grammar.{Yson}
 use Rattle.yson_grammar.specs.Items.{outer}
 use Rattle.yson_grammar.proofs.Place.{bad-there, deep-there}
-use Rattle.yson.specs.Reading.{Reading, good, bad, deep, wordsOf, count, checking, listing}
+use Rattle.yson.specs.Reading.{good, bad, deep, count, listing}
 use Rattle.yson.specs.Statement.{Checks, Lists}
 use Rattle.yson.specs.Stages.{ReadsWhole, Ready, Fills}
 use Rattle.yson.specs.declared.Fault.{Fault}

@@ -1,18 +1,18 @@
 -- Laws of filling the table: what is stored so far and what is still to come are the words of all items. Assumes nothing.
 use mathlib.Core.Path.{_≡_, refl, sym, _∙_, ap, subst}
 use mathlib.Core.List.{List, [], _∷_, _++_, append-assoc, append-nil}
-use mathlib.Core.Logic.{_⊎_, inl, inr, ⊎-elim}
-use Prim.Native.Nat.{ℕ, zero, suc, _+_, _-_, _*_, _/_, _<_, _≤_}
+use mathlib.Core.Logic.{inl, inr, ⊎-elim}
+use Prim.Native.Nat.{ℕ, _+_, _*_, _/_, _<_, _≤_}
 use native.Mathlib.Omega.{arith}
 use lib.ListN.{length, getD, set, length-append}
 use Rattle.words.specs.Buffer.{over}
 use Rattle.words.proofs.BufferLaws.{over-none, over-store, length-over}
-use Rattle.yson_token.specs.Token.{Bracket, square, curly, angle, closing, End, end, punctuation, tokenEnd}
+use Rattle.yson_token.specs.Token.{square, curly, end, punctuation}
 use Rattle.yson_token.proofs.TokenLaws.{mark-end}
-use Rattle.yson_grammar.specs.Grammar.{Token, Node, plain, attributed, Object, single, list, map, Items, more, last, Item, listed, mapped, named, Pair, pair, Yson}
+use Rattle.yson_grammar.specs.Grammar.{Token, Node, plain, attributed, Object, single, list, map, Items, more, last, mapped, Yson}
 use Rattle.yson_grammar.specs.Grammar as Grammar
-use Rattle.yson_grammar.specs.Items.{places, entry, entries, ofObject, outer}
-use Rattle.yson_grammar.specs.Stages.{good, bad, deep, item, next, from}
+use Rattle.yson_grammar.specs.Items.{entry, entries, ofObject, outer}
+use Rattle.yson_grammar.specs.Stages.{good, item, from}
 use Rattle.yson_grammar.proofs.RunLaws.{end-good}
 use Rattle.yson_grammar.proofs.Complete.{items-pass}
 use Rattle.yson_grammar.proofs.Sound.{bad-good, deep-good}

@@ -1,26 +1,24 @@
 -- What each function has read, one law for each of its returns. Assumes nothing.
 use mathlib.Core.Path.{_≡_, refl, sym, _∙_, ap}
-use mathlib.Core.Bool.{Bool, true}
-use mathlib.Core.List.{List, [], _∷_, _++_}
+use mathlib.Core.Bool.{true}
+use mathlib.Core.List.{List, [], _∷_}
 use Prim.Native.Nat.{ℕ, zero, suc, _+_, _-_, _*_, _<_, _≤_}
 use native.Mathlib.Omega.{arith}
 use lib.ListN.{length, getD, length-append}
-use Rattle.words.specs.Decide.{pick, _=?_}
+use Rattle.words.specs.Decide.{_=?_}
 use Rattle.words.proofs.DecideLaws.{pick-case}
-use Rattle.yson_token.specs.Token.{Bracket, square, curly, angle, closing, End, end, none, punctuation, scalarEnd, tokenEnd, keyEnd}
-use Rattle.yson_token.proofs.TokenLaws.{Bounded, scalar-bounded, scalar-token, mark-end, inside}
-use Rattle.yson_grammar.specs.Grammar.{Token, Node, plain, attributed, Object, single, list, map, Items, more, last, Item, listed, mapped, named, Pair, pair}
+use Rattle.yson_token.specs.Token.{Bracket, square, curly, angle, closing, end, none, punctuation, scalarEnd, keyEnd}
+use Rattle.yson_token.proofs.TokenLaws.{scalar-bounded, scalar-token, mark-end, inside}
+use Rattle.yson_grammar.specs.Grammar.{Token, plain, attributed, single, list, map, Items, more, last, Item, listed, mapped, named, Pair, pair}
 use Rattle.yson_grammar.specs.Grammar as Grammar
 use Rattle.yson_grammar.specs.Items.{places, entry, entries, ofObject, outer}
-use Rattle.yson_grammar.specs.Stages.{Due, node, object, item, next, equals, Verdict, good, bad, deep, behind, from, verdict}
-use Rattle.yson_grammar.proofs.RunLaws.{object-list, object-map, object-list-deep, object-map-deep, object-scalar, object-none, node-attributes, node-deep, node-object, item-close, item-node, next-close, next-more, next-bad, key-found, key-none, key-text, equals-node, equals-bad, end-good, end-bad}
-use Rattle.yson_grammar.proofs.Complete.{derived-good}
-use Rattle.yson.specs.Stages.{faulty, onward, onwardPair, Grows, mapAt, mapIn, Shape, Derived, Reads, pairsAt, ReadsItems, keyed, PairGrows, four, PairDerived, ReadsPair, ReadsWhole}
+use Rattle.yson_grammar.specs.Stages.{Due, node, object, item, next, from}
+use Rattle.yson_grammar.proofs.RunLaws.{object-list, object-map, object-list-deep, object-map-deep, object-scalar, object-none, node-attributes, node-deep, node-object, item-close, item-node, next-close, next-more, next-bad, key-found, key-none, key-text, equals-node, equals-bad, end-bad}
+use Rattle.yson.specs.Stages.{faulty, onward, Grows, mapAt, mapIn, Shape, Derived, Reads, pairsAt, ReadsItems, keyed, ReadsPair, ReadsWhole}
 use Rattle.yson.specs.declared.Fault.{Fault}
 use Rattle.yson.specs.declared.Fault.the-variants.{BadYson, TooDeep}
 use Rattle.yson.specs.declared.Read.{Read}
 use Rattle.yson.specs.declared.Read.the-variants.{Ended, Refused}
-use Rattle.yson.specs.declared.PairRead.{PairRead}
 use Rattle.yson.specs.declared.PairRead.the-variants.{Whole, Failed}
 
 module _ (s : List ℕ) where

@@ -11,7 +11,6 @@ use Rattle.words.specs.Paper.{Tells, outcome, roomLine}
 use Rattle.words.specs.declared.outcome.Room.the-variants.{Items as ItemRoom}
 use Rattle.words.proofs.Unique.{equal-to-one, means-one}
 use Rattle.words.proofs.PaperLaws.{noRoomOf, no-room-back}
-use Rattle.yson_grammar.specs.Grammar.{Yson}
 use Rattle.yson_grammar.specs.Items.{outer}
 use Rattle.yson_grammar.proofs.Place.{one-place, not-both}
 use Rattle.yson_grammar.proofs.OneListing.{outer-same}

@@ -1,18 +1,18 @@
 -- What the grammar derives the machine passes: a node, whatever is open around it. From that it follows that what the grammar derives is
 -- accepted, and that a node has one extent. Assumes nothing.
 use mathlib.Core.Path.{_≡_, refl, sym, _∙_, ap}
-use mathlib.Core.Bool.{Bool, true, false, true≢false}
+use mathlib.Core.Bool.{true, false, true≢false}
 use mathlib.Core.List.{List, [], _∷_}
-use mathlib.Core.Logic.{_⊎_, inl, inr, ⊎-elim}
-use Prim.Native.Nat.{ℕ, zero, suc, _+_, _-_, _<_, _≤_}
+use mathlib.Core.Logic.{⊎-elim}
+use Prim.Native.Nat.{ℕ, zero, suc, _+_, _≤_}
 use native.Mathlib.Omega.{arith}
-use borrow.Author.Tests.{lt-ltb, le-ltb, eq-eqb, ne-eqb, eqb-true, eqb-false}
+use borrow.Author.Tests.{ne-eqb}
 use lib.ListN.{length, getD}
-use Rattle.yson_token.specs.Token.{End, end, none, punctuation, scalar, scalarEnd, tokenEnd}
+use Rattle.yson_token.specs.Token.{end, none, scalar, tokenEnd}
 use Rattle.yson_token.specs.Token.{Bracket, square, curly, angle, closing}
 use Rattle.yson_grammar.specs.Grammar.{Token, Node, plain, attributed, Object, single, list, map, Items, more, last, Item, listed, mapped, named, Pair, pair, Yson}
 use Rattle.yson_grammar.specs.Grammar as Grammar
-use Rattle.yson_grammar.specs.Stages.{Due, node, object, item, next, equals, Step, stop, go, enter, leave, behind, asObject, asNode, asKey, step, Verdict, good, bad, deep, complete, outer, taken, from, verdict}
+use Rattle.yson_grammar.specs.Stages.{Due, node, object, item, next, equals, Step, go, behind, asObject, asNode, asKey, step, good, bad, taken, from, verdict}
 use Rattle.yson_grammar.proofs.RunLaws.{token-taken, node-object, item-node, end-good, end-bad, same-or-other}
 
 module _ (s : List ℕ) where

@@ -1,12 +1,10 @@
 -- The cases that the readings name, computed. Assumes nothing.
 use mathlib.Core.Path.{_≡_, refl}
-use mathlib.Core.List.{List, [], _∷_, _++_}
-use Prim.Native.Nat.{ℕ}
+use mathlib.Core.List.{[], _∷_, _++_}
 use lib.ListN.{replicate}
-use Rattle.words.specs.Decide.{pick, decide, _⇒_, _<?_, _=?_}
 use Rattle.yson_token.specs.Varint.{sizeIn, valueIn}
 use Rattle.yson_token.specs.Token.{within, numberEnd, stringFrom, textEnd, punctuation, scalar, scalarEnd, tokenEnd}
-use Rattle.yson_grammar.specs.Stages.{Verdict, good, bad, deep, asObject, asNode, asKey, step, complete, taken, after, run, verdict}
+use Rattle.yson_grammar.specs.Stages.{good, bad, deep, asObject, asNode, asKey, step, complete, taken, after, run, verdict}
 
 -- # alone, nothing, #;#, #;
 one : verdict (35 ∷ []) ≡ good

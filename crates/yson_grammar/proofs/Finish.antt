@@ -1,16 +1,16 @@
 -- Whatever the machine has come to, some bytes finish a good input: an entity where a node is due, then what closes the brackets, with
 -- an entity behind attributes. Assumes nothing.
-use mathlib.Core.Path.{_≡_, refl, sym, _∙_, ap, subst}
+use mathlib.Core.Path.{_≡_, sym, _∙_, ap}
 use mathlib.Core.List.{List, [], _∷_, _++_}
 use Prim.Native.Nat.{ℕ, suc, _+_, _-_, _<_, _≤_}
 use native.Mathlib.Nat.{add-zero}
 use native.Mathlib.Omega.{arith}
 use lib.ListN.{length, getD, take, length-append}
 use lib.Seq.{length-take-le, getD-append-add}
-use Rattle.yson_token.specs.Token.{Bracket, square, curly, angle, closing, entityMark, equalsSign, End, end, scalarEnd}
+use Rattle.yson_token.specs.Token.{Bracket, square, curly, angle, closing, entityMark, equalsSign}
 use Rattle.yson_token.proofs.ScalarLaws.{scalar-entity}
 use Rattle.yson_grammar.specs.Grammar.{Node}
-use Rattle.yson_grammar.specs.Stages.{Due, node, object, item, next, equals, good, behind, from}
+use Rattle.yson_grammar.specs.Stages.{Due, node, object, item, next, equals, good, from}
 use Rattle.yson_grammar.proofs.RunLaws.{object-scalar, node-object, item-close, next-close, equals-node, end-good}
 use Rattle.yson_grammar.proofs.Sound.{After, Rest, accepts}
 use Rattle.yson_grammar.specs.Place.{Begins}

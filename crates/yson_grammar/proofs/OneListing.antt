@@ -1,13 +1,13 @@
 -- Two derivations of a map's items have the same places. Assumes nothing.
 use mathlib.Core.Path.{_≡_, refl, sym, _∙_, ap}
-use mathlib.Core.Bool.{true, false, true≢false}
-use mathlib.Core.List.{List, [], _∷_, _++_}
-use Prim.Native.Nat.{ℕ, suc, _+_}
+use mathlib.Core.Bool.{true, true≢false}
+use mathlib.Core.List.{List, _++_}
+use Prim.Native.Nat.{ℕ}
 use native.Mathlib.Omega.{arith}
-use lib.ListN.{length, getD}
-use Rattle.yson_token.specs.Token.{End, end, scalar, tokenEnd}
-use Rattle.yson_token.specs.Token.{Bracket, square, curly, angle, closing}
-use Rattle.yson_grammar.specs.Grammar.{Token, Node, plain, attributed, Object, single, list, map, Items, more, last, Item, listed, mapped, named, Pair, pair}
+use lib.ListN.{getD}
+use Rattle.yson_token.specs.Token.{end, scalar, tokenEnd}
+use Rattle.yson_token.specs.Token.{curly, angle}
+use Rattle.yson_grammar.specs.Grammar.{Token, Node, plain, attributed, Object, single, list, map, Items, more, last, Item, mapped, named, Pair, pair}
 use Rattle.yson_grammar.specs.Grammar as Grammar
 use Rattle.yson_grammar.specs.Items.{places, entry, entries, ofObject, outer}
 use Rattle.yson_grammar.proofs.Complete.{one-extent, not-attributes}

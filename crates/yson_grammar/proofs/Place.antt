@@ -1,19 +1,19 @@
 -- Where the machine fails is where the input fails, without the machine. Assumes nothing.
 use mathlib.Core.Path.{_≡_, refl, sym, _∙_, ap, subst}
-use mathlib.Core.Bool.{Bool, true, false, _&&_}
+use mathlib.Core.Bool.{_&&_}
 use mathlib.Core.List.{List, [], _∷_, _++_, append-assoc}
-use mathlib.Core.Logic.{_⊎_, inl, inr, ⊎-elim}
+use mathlib.Core.Logic.{⊎-elim}
 use Prim.Native.Nat.{ℕ, zero, suc, _+_, _-_, _<_, _≤_}
 use native.Mathlib.Omega.{arith}
-use lib.ListN.{length, getD, take, drop, length-append, take-append-drop}
+use lib.ListN.{length, getD, take, drop, take-append-drop}
 use lib.Seq.{take-take}
-use Rattle.words.specs.Decide.{pick, _=?_}
+use Rattle.words.specs.Decide.{_=?_}
 use Rattle.words.proofs.DecideLaws.{pick-case, le-or-gt}
 use Rattle.yson_token.specs.Token.{Bracket, End, end, none, tokenEnd}
 use Rattle.yson_token.proofs.TokenLaws.{Bounded, token-bounded}
 use Rattle.yson_token.proofs.LocalLaws.{Alike, shorter, token-same}
-use Rattle.yson_grammar.specs.Grammar.{Node, Yson}
-use Rattle.yson_grammar.specs.Stages.{Due, node, object, item, next, equals, Step, stop, go, enter, leave, step, Verdict, good, bad, deep, complete, outer, taken, after, run, from, verdict}
+use Rattle.yson_grammar.specs.Grammar.{Node}
+use Rattle.yson_grammar.specs.Stages.{Due, node, item, Step, stop, go, enter, leave, step, Verdict, good, bad, deep, complete, outer, taken, after, run, from, verdict}
 use Rattle.yson_grammar.proofs.RunLaws.{token-taken, end-good, none-not-end}
 use Rattle.yson_grammar.proofs.Complete.{node-passes, deeper, derived-good}
 use Rattle.yson_grammar.proofs.Sound.{bad-good, deep-good}

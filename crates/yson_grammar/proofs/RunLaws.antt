@@ -1,16 +1,16 @@
 -- Laws of the machine: enough fuel is enough, and what each token does. Assumes nothing.
 use mathlib.Core.Path.{_≡_, refl, sym, _∙_, ap}
-use mathlib.Core.Bool.{Bool, true, false, _&&_}
+use mathlib.Core.Bool.{Bool, true, false}
 use mathlib.Core.List.{List, [], _∷_}
 use mathlib.Core.Logic.{_⊎_, inl, inr, ⊎-elim}
 use Prim.Native.Nat.{ℕ, zero, suc, _+_, _-_, _<_, _≤_}
 use native.Mathlib.Omega.{arith}
-use borrow.Author.Tests.{lt-ltb, le-ltb, eq-eqb, ne-eqb, eqb-true, eqb-false}
+use borrow.Author.Tests.{eq-eqb, ne-eqb, eqb-true, eqb-false}
 use lib.ListN.{length, getD}
-use Rattle.words.specs.Decide.{pick, Line, _⇒_, decide, _<?_, _=?_}
-use Rattle.yson_token.specs.Token.{End, end, none, punctuation, scalar, textEnd, scalarEnd, tokenEnd, keyEnd}
+use Rattle.words.specs.Decide.{pick, _=?_}
+use Rattle.yson_token.specs.Token.{End, end, none, punctuation, textEnd, scalarEnd, tokenEnd, keyEnd}
 use Rattle.yson_token.specs.Token.{Bracket, square, curly, angle, closing}
-use Rattle.yson_grammar.specs.Stages.{Due, node, object, item, next, equals, Step, stop, go, enter, leave, behind, asObject, asNode, asKey, step, Verdict, good, bad, deep, complete, outer, taken, after, run, from, verdict}
+use Rattle.yson_grammar.specs.Stages.{Due, node, object, item, next, equals, Step, stop, go, enter, leave, behind, asObject, asNode, asKey, step, Verdict, good, bad, deep, complete, outer, taken, after, run, from}
 use Rattle.yson_token.proofs.ScalarLaws.{scalar-text}
 use Rattle.yson_token.proofs.TokenLaws.{Bounded, token-bounded, mark-end, scalar-token, mark-not-scalar}
 

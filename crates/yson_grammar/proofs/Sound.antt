@@ -1,21 +1,21 @@
 -- What the machine accepts the grammar derives: from each state that leads to acceptance, what is due stands there, and behind it what
 -- closes the brackets that are open. Assumes nothing.
-use mathlib.Core.Path.{_≡_, refl, sym, _∙_, ap}
-use mathlib.Core.Bool.{Bool, true, false, _&&_}
+use mathlib.Core.Path.{_≡_, refl}
+use mathlib.Core.Bool.{true}
 use mathlib.Core.List.{List, [], _∷_}
-use mathlib.Core.Logic.{_⊎_, inl, inr, ⊎-elim}
-use Prim.Native.Nat.{ℕ, zero, suc, _+_, _-_, _<_, _≤_}
+use mathlib.Core.Logic.{_⊎_, inl, inr}
+use Prim.Native.Nat.{ℕ, zero, suc, _-_}
 use native.Mathlib.Omega.{arith}
-use borrow.Author.Tests.{eqb-true, eqb-false}
+use borrow.Author.Tests.{eqb-true}
 use lib.ListN.{length, getD}
-use Rattle.words.specs.Decide.{pick, decide, Line, _⇒_, _=?_}
+use Rattle.words.specs.Decide.{_⇒_, _=?_}
 use Rattle.words.proofs.DecideLaws.{pick-case}
 use Rattle.yson_token.proofs.TokenLaws.{Lines, decide-all}
 use Rattle.yson_token.specs.Token.{End, end, none, scalar, tokenEnd}
 use Rattle.yson_token.specs.Token.{Bracket, square, curly, angle, closing}
 use Rattle.yson_grammar.specs.Grammar.{Token, Node, plain, attributed, Object, single, list, map, Items, more, last, Item, listed, mapped, named, Pair, pair, Yson}
 use Rattle.yson_grammar.specs.Grammar as Grammar
-use Rattle.yson_grammar.specs.Stages.{Due, node, object, item, next, equals, Step, stop, go, enter, leave, behind, asObject, asNode, asKey, step, Verdict, good, bad, deep, complete, outer, taken, after, run, from, verdict}
+use Rattle.yson_grammar.specs.Stages.{Due, node, object, item, next, equals, Step, stop, go, enter, leave, behind, asObject, asNode, asKey, step, Verdict, good, bad, deep, complete, taken, after, run, verdict}
 
 module _ (s : List ℕ) where
   -- behind an item: the end of its bracket, or a separator and more items

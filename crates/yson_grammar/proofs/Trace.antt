@@ -1,18 +1,16 @@
 -- How the machine came to where it is, and that it comes there in every input with the same bytes up to there, with however much more
 -- room. Assumes nothing.
 use mathlib.Core.Path.{_≡_, refl, sym, _∙_, ap, subst}
-use mathlib.Core.Bool.{Bool, true, false, _&&_}
 use mathlib.Core.List.{List, [], _∷_, _++_}
-use Prim.Native.Nat.{ℕ, zero, suc, _+_, _-_, _<_, _≤_}
+use Prim.Native.Nat.{ℕ, suc, _+_, _<_, _≤_}
 use native.Mathlib.Omega.{arith}
 use lib.ListN.{length, getD, take, length-append, List·getD-append}
-use lib.Seq.{getD-take, length-take-le, getD-append-add}
-use Rattle.words.specs.Decide.{pick, _⇒_, _=?_}
-use Rattle.words.proofs.DecideLaws.{pick-case}
-use Rattle.yson_token.specs.Token.{Bracket, square, curly, angle, opening, closing, stringMark, separator, equalsSign, End, end, none, scalar, tokenEnd}
+use lib.Seq.{getD-take, length-take-le}
+use Rattle.words.specs.Decide.{_⇒_, _=?_}
+use Rattle.yson_token.specs.Token.{Bracket, square, curly, angle, opening, closing, stringMark, separator, equalsSign, end, scalar, tokenEnd}
 use Rattle.yson_token.proofs.TokenLaws.{Lines, decide-all, Bounded, token-bounded}
 use Rattle.yson_token.proofs.LocalLaws.{Alike, shorter, token-same}
-use Rattle.yson_grammar.specs.Stages.{Due, node, object, item, next, equals, Step, stop, go, enter, leave, behind, asObject, asNode, asKey, step, Verdict, good, bad, deep, complete, outer, taken, after, run, from, verdict}
+use Rattle.yson_grammar.specs.Stages.{Due, node, object, item, next, equals, Step, stop, go, enter, leave, behind, asObject, asNode, asKey, step, outer, taken, from}
 use Rattle.yson_grammar.proofs.RunLaws.{token-taken}
 use Rattle.yson_grammar.specs.Place.{Reached, start, on}
 

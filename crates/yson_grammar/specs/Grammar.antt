@@ -6,7 +6,7 @@ use mathlib.Core.Bool.{true}
 use mathlib.Core.List.{List}
 use Prim.Native.Nat.{ℕ, suc}
 use lib.ListN.{length, getD}
-use Rattle.yson_token.specs.Token.{Bracket, square, curly, angle, opening, closing, stringMark, separator, equalsSign, End, end, scalar, tokenEnd}
+use Rattle.yson_token.specs.Token.{Bracket, square, curly, angle, opening, closing, stringMark, separator, equalsSign, end, scalar, tokenEnd}
 
 -- a whole token whose first byte is b
 pub record Token (s : List ℕ) (b from to : ℕ) : Type 0 where

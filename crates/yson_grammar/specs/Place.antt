@@ -4,7 +4,7 @@ use mathlib.Core.Path.{_≡_}
 use mathlib.Core.List.{List, _++_}
 use Prim.Native.Nat.{ℕ, suc}
 use lib.ListN.{length, take}
-use Rattle.yson_token.specs.Token.{End, end, tokenEnd}
+use Rattle.yson_token.specs.Token.{end, tokenEnd}
 use Rattle.yson_grammar.specs.Grammar.{Node, mostOpen, Yson}
 
 -- the input's tokens from its front up to here are whole

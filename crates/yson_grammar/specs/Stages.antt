@@ -1,12 +1,12 @@
 -- A machine over tokens, which the private functions of `yson` follow: what is due, and the brackets that are open,
 -- innermost first; the first token that cannot be taken is the failing one. It need not be believed: what it says of a
 -- place is proved of `Place.antt`, which knows no machine. Assumes nothing.
-use Prim.Native.Nat.{ℕ, zero, suc, _+_, _-_}
+use Prim.Native.Nat.{ℕ, zero, suc, _-_}
 use mathlib.Core.Bool.{Bool, true, false, _&&_}
 use mathlib.Core.List.{List, [], _∷_}
 use lib.ListN.{length, getD}
 use Rattle.yson_grammar.specs.Grammar.{mostOpen}
-use Rattle.words.specs.Decide.{pick, decide, _⇒_, _=?_}
+use Rattle.words.specs.Decide.{decide, _⇒_, _=?_}
 use Rattle.yson_token.specs.Token.{Bracket, square, curly, angle, opening, closing, stringMark, separator, equalsSign, End, end, none, scalar, tokenEnd}
 
 pub data Due : Type 0 where

@@ -2,11 +2,10 @@
 use mathlib.Core.Path.{_≡_, refl}
 use mathlib.Core.List.{List, [], _∷_}
 use Prim.Native.Nat.{ℕ}
-use lib.ListN.{length}
 use Rattle.words.specs.Buffer.{over}
 use Rattle.yson_token.specs.Varint.{sizeIn, valueIn}
 use Rattle.yson_token.specs.Token.{within, numberEnd, stringFrom, textEnd, punctuation, scalar, scalarEnd, tokenEnd}
-use Rattle.yson_grammar.specs.Grammar.{Token, Node, plain, attributed, Object, single, list, map, Items, more, last, Item, listed, mapped, named, Pair, pair, Yson}
+use Rattle.yson_grammar.specs.Grammar.{plain, attributed, single, map, more, mapped, pair, Yson}
 use Rattle.yson_grammar.specs.Grammar as Grammar
 use Rattle.yson_grammar.specs.Items.{places, entry, entries, ofObject, outer}
 use Rattle.yson.specs.Statement.{Lists}

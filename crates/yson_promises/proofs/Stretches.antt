@@ -1,10 +1,10 @@
 -- The words of an outer map's items are stretches: strings, and nodes. Assumes nothing.
-use mathlib.Core.Path.{_≡_, refl, sym, _∙_, ap, subst}
-use mathlib.Core.List.{List, [], _∷_, _++_}
-use Prim.Native.Nat.{ℕ, suc, _-_}
+use mathlib.Core.Path.{_≡_, refl, subst}
+use mathlib.Core.List.{List, _++_}
+use Prim.Native.Nat.{ℕ, suc}
 use native.Mathlib.Omega.{arith}
-use Rattle.yson_token.specs.Token.{Bracket, curly}
-use Rattle.yson_grammar.specs.Grammar.{Node, plain, attributed, Object, single, list, map, Items, more, last, Item, listed, mapped, named, Pair, pair, Yson}
+use Rattle.yson_token.specs.Token.{curly}
+use Rattle.yson_grammar.specs.Grammar.{Node, plain, attributed, Object, single, list, map, Items, more, last, mapped, Pair, pair, Yson}
 use Rattle.yson_grammar.specs.Grammar as Grammar
 use Rattle.yson_grammar.specs.Items.{places, entry, entries, ofObject, outer}
 use Rattle.yson_promises.specs.Yson.{Stretches, none, item}

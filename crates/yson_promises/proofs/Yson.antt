@@ -1,30 +1,29 @@
 -- The promises of document 02's A4. Assumes nothing.
 use mathlib.Core.Path.{_≡_, refl, sym, _∙_, ap, subst}
 use mathlib.Core.List.{List, [], _∷_}
-use Prim.Native.Nat.{ℕ, _*_, _/_, _<_, _≤_}
+use Prim.Native.Nat.{ℕ, _*_, _/_, _≤_}
 use native.Mathlib.Omega.{arith}
 use borrow.Author.Tests.{ltb-false}
 use lib.ListN.{length}
-use mathlib.Core.Logic.{_⊎_, inl, inr, ⊎-elim}
+use mathlib.Core.Logic.{_⊎_, inl, inr}
 use Rattle.words.specs.Answer.{Answer, accepted, more, refused, refuse, afterwards}
 use Rattle.words.specs.Buffer.{over}
-use Rattle.words.specs.Decide.{pick, decide, _⇒_, _<?_}
+use Rattle.words.specs.Decide.{_<?_}
 use Rattle.words.specs.Paper.{noRoom}
 use Rattle.words.specs.declared.outcome.Room.the-variants.{Items as ItemRoom}
 use Rattle.words.proofs.AnswerLaws.{refused-not-accepted}
 use Rattle.words.proofs.DecideLaws.{pick-case}
-use Rattle.yson_grammar.specs.Grammar.{Node, Yson}
+use Rattle.yson_grammar.specs.Grammar.{Yson}
 use Rattle.yson_grammar.specs.Items.{outer}
 use Rattle.yson_grammar.proofs.Complete.{one-extent}
 use Rattle.yson_grammar.proofs.OneListing.{outer-same}
 use Rattle.yson.specs.Reading.{Reading, good, bad, deep, wordsOf, count, checking, listing}
-use Rattle.yson.specs.Paper.{paper, faultPaper}
+use Rattle.yson.specs.Paper.{paper}
 use Rattle.yson.specs.Statement.{Checks, Lists}
 use Rattle.yson.specs.declared.Listed.{Listed}
 use Rattle.yson.specs.declared.Listed.the-variants.{Items, Broken, Short}
-use Rattle.yson.specs.declared.Fault.{Fault}
 use Rattle.yson.specs.declared.Fault.the-variants.{BadYson, TooDeep}
-use Rattle.yson_grammar.specs.Place.{BadAt, DeepAt, Fails}
+use Rattle.yson_grammar.specs.Place.{BadAt, DeepAt}
 use Rattle.yson_promises.specs.Yson.{Accepted, AcceptsExactly, OneExtent, AcceptedWhole, ItemsOfOuterMap, KeysAndValues, RefusalKeeps, Place}
 use Rattle.yson_promises.proofs.Stretches.{yson-stretches}
 use Rattle.yson_promises.proofs.Fours.{four-words}

@@ -1,17 +1,17 @@
 -- A whole token is read from its own bytes alone: it is whole, and ends at the same place, in every input that has the same bytes up
 -- to there. Assumes nothing.
 use mathlib.Core.Path.{_≡_, refl, sym, _∙_, ap}
-use mathlib.Core.Bool.{Bool, true, false, _&&_, true≢false}
+use mathlib.Core.Bool.{Bool, true, false}
 use mathlib.Core.List.{List, [], _∷_}
-use Prim.Native.Nat.{ℕ, zero, suc, _+_, _-_, _*_, _/_, _%_, _^_, _<_, _≤_}
+use Prim.Native.Nat.{ℕ, zero, suc, _+_, _*_, _/_, _%_, _^_, _<_, _≤_}
 use native.Mathlib.Omega.{arith}
-use borrow.Author.Tests.{lt-ltb, le-ltb, ltb-false, ltb-true, eqb-true}
+use borrow.Author.Tests.{le-ltb, ltb-false, ltb-true}
 use lib.ListN.{length, getD}
-use Rattle.words.specs.Decide.{pick, Line, _⇒_, decide, _<?_, _=?_}
+use Rattle.words.specs.Decide.{pick, _⇒_, decide, _<?_, _=?_}
 use Rattle.words.proofs.DecideLaws.{pick-case}
-use Rattle.yson_token.specs.Varint.{sizeIn, valueIn, varintSize, varintAt, varintEnd, wholeVarint}
-use Rattle.yson_token.specs.Token.{End, end, none, within, numberEnd, stringFrom, textEnd, punctuation, scalar, scalars, scalarEnd, tokenEnd, keyEnd}
-use Rattle.yson_token.proofs.VarintLaws.{size-least, size-last, value-last, size-more, value-more, whole-end, whole-is, whole-parts}
+use Rattle.yson_token.specs.Varint.{sizeIn, valueIn, varintAt, varintEnd, wholeVarint}
+use Rattle.yson_token.specs.Token.{End, end, none, within, numberEnd, stringFrom, textEnd, punctuation, scalars, scalarEnd, tokenEnd}
+use Rattle.yson_token.proofs.VarintLaws.{size-least, size-last, value-last, size-more, value-more, whole-is, whole-parts}
 use Rattle.yson_token.proofs.TokenLaws.{Lines, decide-all, Bounded, token-bounded}
 
 -- t has the bytes of s up to n, and reaches to n

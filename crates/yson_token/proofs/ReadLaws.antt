@@ -1,6 +1,5 @@
 -- Laws of reading a varint: what was read so far, and what is still to come from `at` on, is the whole. Assumes nothing.
 use mathlib.Core.Path.{_≡_, refl, sym, _∙_, ap}
-use mathlib.Core.Bool.{true, false}
 use mathlib.Core.List.{List}
 use Prim.Native.Nat.{ℕ, zero, suc, _+_, _*_, _%_, _^_, _<_, _≤_, _-_}
 use native.Mathlib.Nat.{mul-le-mul-left, mul-assoc, mul-one, mul-add, pow-succ'}
@@ -9,7 +8,7 @@ use borrow.Author.Tests.{ltb-true, ltb-false}
 use lib.ListN.{length, getD}
 use Rattle.words.specs.Decide.{_<?_}
 use Rattle.words.proofs.DecideLaws.{pick-case}
-use Rattle.yson_token.specs.Varint.{sizeIn, valueIn, varintSize, varintAt, varintEnd, wholeVarint}
+use Rattle.yson_token.specs.Varint.{sizeIn, valueIn, varintAt, varintEnd}
 use Rattle.yson_token.specs.Stages.{ReadsVarint}
 use Rattle.yson_token.specs.declared.varint.Varint.the-variants.{Whole, Broken}
 use Rattle.yson_token.proofs.VarintLaws.{size-least, size-last, value-last, size-more, value-more, whole-is, cut-off, too-long, too-large}

@@ -1,14 +1,12 @@
 -- What each reader of a scalar has found, one law for each of its returns. Assumes nothing.
-use mathlib.Core.Path.{_≡_, refl, sym, _∙_, ap}
-use mathlib.Core.Bool.{true, false}
-use mathlib.Core.List.{List, [], _∷_}
+use mathlib.Core.Path.{_≡_, sym, _∙_, ap}
+use mathlib.Core.List.{List}
 use Prim.Native.Nat.{ℕ, _+_, _-_, _/_, _%_, _^_, _<_, _≤_}
 use native.Mathlib.Omega.{arith}
 use borrow.Author.Tests.{lt-ltb, le-ltb, eq-eqb, ne-eqb}
 use lib.ListN.{length, getD}
-use Rattle.words.specs.Decide.{pick, _⇒_, decide, _<?_, _=?_}
-use Rattle.yson_token.specs.Varint.{varintAt, varintEnd, wholeVarint}
-use Rattle.yson_token.specs.Token.{End, end, none, within, numberEnd, stringFrom, textEnd, scalarEnd, keyEnd}
+use Rattle.yson_token.specs.Varint.{varintAt}
+use Rattle.yson_token.specs.Token.{end, none, within, numberEnd, stringFrom, textEnd, scalarEnd, keyEnd}
 use Rattle.yson_token.specs.Stages.{ReadsVarint}
 use Rattle.yson_token.specs.declared.varint.Varint.the-variants.{Whole as Spelled, Broken}
 use Rattle.yson_token.proofs.VarintLaws.{whole-end}

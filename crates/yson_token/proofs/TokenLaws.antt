@@ -2,15 +2,15 @@
 use mathlib.Core.Path.{_≡_, refl, sym, _∙_, ap}
 use mathlib.Core.Bool.{Bool, true, false, true≢false}
 use mathlib.Core.List.{List, [], _∷_}
-use mathlib.Core.Logic.{_⊎_, inl, inr, ⊎-elim}
-use Prim.Native.Nat.{ℕ, zero, suc, _+_, _-_, _*_, _/_, _%_, _^_, _<_, _≤_}
+use mathlib.Core.Logic.{⊎-elim}
+use Prim.Native.Nat.{ℕ, suc, _+_, _/_, _%_, _^_, _<_, _≤_}
 use native.Mathlib.Omega.{arith}
-use borrow.Author.Tests.{lt-ltb, le-ltb, eq-eqb, ne-eqb, eqb-true, eqb-false, ltb-false, ltb-true}
+use borrow.Author.Tests.{eqb-true, ltb-false}
 use lib.ListN.{length, getD, List·getD-eq-default}
-use Rattle.words.specs.Decide.{pick, Line, _⇒_, decide, _<?_, _=?_}
+use Rattle.words.specs.Decide.{Line, _⇒_, decide, _<?_, _=?_}
 use Rattle.words.proofs.DecideLaws.{pick-case, le-or-gt}
-use Rattle.yson_token.specs.Varint.{sizeIn, valueIn, varintSize, varintAt, varintEnd, wholeVarint}
-use Rattle.yson_token.specs.Token.{End, end, none, within, numberEnd, stringFrom, textEnd, punctuation, scalar, scalars, scalarEnd, tokenEnd, keyEnd}
+use Rattle.yson_token.specs.Varint.{varintAt, varintEnd, wholeVarint}
+use Rattle.yson_token.specs.Token.{End, end, none, within, numberEnd, stringFrom, textEnd, punctuation, scalar, scalars, scalarEnd, tokenEnd}
 use Rattle.yson_token.proofs.VarintLaws.{whole-end}
 
 -- what is shown line by line holds of the answer

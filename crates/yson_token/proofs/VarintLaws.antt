@@ -1,12 +1,12 @@
 -- Laws of varints at an offset. Assumes nothing.
-use mathlib.Core.Path.{_≡_, refl, sym, _∙_, ap}
+use mathlib.Core.Path.{_≡_, refl, sym}
 use mathlib.Core.Bool.{Bool, true, false, _&&_, true≢false}
-use mathlib.Core.List.{List, [], _∷_, _++_}
-use Prim.Native.Nat.{ℕ, zero, suc, _+_, _*_, _/_, _%_, _^_, _<_, _≤_, _-_}
+use mathlib.Core.List.{List}
+use Prim.Native.Nat.{ℕ, zero, suc, _+_, _*_, _%_, _<_, _≤_}
 use native.Mathlib.Omega.{arith}
 use borrow.Author.Tests.{lt-ltb, le-ltb, ltb-true}
 use lib.ListN.{length, getD}
-use Rattle.words.specs.Decide.{pick, _<?_}
+use Rattle.words.specs.Decide.{_<?_}
 use Rattle.words.proofs.DecideLaws.{pick-case}
 use Rattle.yson_token.specs.Varint.{sizeIn, valueIn, varintSize, varintAt, varintEnd, wholeVarint}
 

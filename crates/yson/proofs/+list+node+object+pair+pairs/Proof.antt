@@ -1,7 +1,7 @@
 -- The proof of the cycle of calls {list, node, object, pair, pairs}. The measure: four for each bracket that may still be opened; at
 -- one depth the items lie above the pair, the pair above the node, and the node above the object. Each loop's invariant: the items so
 -- far are passed. Assumes nothing.
-use mathlib.Core.Path.{_≡_, refl, sym, _∙_, ap}
+use mathlib.Core.Path.{refl, sym, _∙_, ap}
 use native.Mathlib.Omega.{arith}
 use native.Mathlib.Nat.{pos-of-ne-zero}
 use lib.ListN.{length}

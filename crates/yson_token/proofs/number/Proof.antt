@@ -1,9 +1,5 @@
 -- `number` meets its contract. Assumes nothing.
-use mathlib.Core.Path.{_≡_, refl, sym, _∙_, ap}
-use Prim.Native.Nat.{_+_, _-_, _*_, _/_, _≤_, _<_}
-use native.Mathlib.Omega.{arith}
 use borrow.Author.Needs.{needs}
-use lib.ListN.{length}
 use Rattle.yson_token.proofs.ScalarLaws.{number-whole, number-broken}
 use Rattle.yson_token.proofs.number.Statement.{statement}
 use Rattle.yson_token.proofs.number.Tie as tie

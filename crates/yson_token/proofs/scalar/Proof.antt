@@ -1,9 +1,7 @@
 -- `scalar` meets its contract. Assumes nothing.
-use mathlib.Core.Path.{_≡_, refl, sym, _∙_, ap}
-use Prim.Native.Nat.{_+_, _-_, _*_, _/_, _≤_, _<_}
+use mathlib.Core.Path.{sym, _∙_}
 use native.Mathlib.Omega.{arith}
 use borrow.Author.Needs.{needs}
-use lib.ListN.{length}
 use Rattle.yson_token.proofs.TokenLaws.{inside}
 use Rattle.yson_token.proofs.ScalarLaws.{within-end, outside, scalar-text, scalar-signed, scalar-double, scalar-false, scalar-true, scalar-unsigned, scalar-entity, scalar-other}
 use Rattle.yson_token.proofs.scalar.Statement.{statement}

@@ -1,9 +1,6 @@
 -- `text` meets its contract. Assumes nothing.
-use mathlib.Core.Path.{_≡_, refl, sym, _∙_, ap}
-use Prim.Native.Nat.{_+_, _-_, _*_, _/_, _≤_, _<_}
 use native.Mathlib.Omega.{arith}
 use borrow.Author.Needs.{needs}
-use lib.ListN.{length}
 use Rattle.yson_token.proofs.ScalarLaws.{spelled-inside, text-broken, text-negative, text-large, text-past, text-whole}
 use Rattle.yson_token.proofs.text.Statement.{statement}
 use Rattle.yson_token.proofs.text.Tie as tie
