@@ -2,18 +2,19 @@
 -- an entity behind attributes. Assumes nothing.
 use mathlib.Core.Path.{_≡_, sym, _∙_, ap}
 use mathlib.Core.List.{List, [], _∷_, _++_}
-use Prim.Native.Nat.{ℕ, suc, _+_, _-_, _<_, _≤_}
+use Prim.Native.Nat.{ℕ, zero, suc, _+_, _-_, _<_, _≤_}
 use native.Mathlib.Nat.{add-zero}
 use native.Mathlib.Omega.{arith}
 use lib.ListN.{length, getD, take, length-append}
 use lib.Seq.{length-take-le, getD-append-add}
+use Rattle.words.specs.Word.{Bytes}
 use Rattle.yson_token.specs.Token.{Bracket, square, curly, angle, closing, entityMark, equalsSign}
 use Rattle.yson_token.proofs.ScalarLaws.{scalar-entity}
 use Rattle.yson_grammar.specs.Grammar.{Node}
 use Rattle.yson_grammar.specs.Stages.{Due, node, object, item, next, equals, good, from}
 use Rattle.yson_grammar.proofs.RunLaws.{object-scalar, node-object, item-close, next-close, equals-node, end-good}
 use Rattle.yson_grammar.proofs.Sound.{After, Rest, accepts}
-use Rattle.yson_grammar.specs.Place.{Begins}
+use Rattle.yson_grammar.specs.Place.{BeginsInBytes}
 use Rattle.yson_grammar.proofs.Trace.{Trace, trace-runs, trace-moved, front-alike, Held, trace-held}
 
 abbrev closers : List Bracket → List ℕ
@@ -28,6 +29,28 @@ finish object around = entityMark ∷ closers around
 finish item around = closers around
 finish next around = closers around
 finish equals around = equalsSign ∷ entityMark ∷ closers around
+
+-- they are bytes
+more-bytes : (x : ℕ) (xs : List ℕ) → x < 256 → Bytes xs → Bytes (x ∷ xs)
+more-bytes x xs h rest zero = h
+more-bytes x xs h rest (suc i) = rest i
+
+closers-bytes : (around : List Bracket) → Bytes (closers around)
+closers-bytes [] = λ i. omega arith
+closers-bytes (square ∷ around) = more-bytes 93 (closers around) (omega arith) (closers-bytes around)
+closers-bytes (curly ∷ around) = more-bytes 125 (closers around) (omega arith) (closers-bytes around)
+closers-bytes (angle ∷ around) =
+    more-bytes 62 (35 ∷ closers around) (omega arith) (more-bytes 35 (closers around) (omega arith) (closers-bytes around))
+
+entity-bytes : (around : List Bracket) → Bytes (35 ∷ closers around)
+entity-bytes around = more-bytes 35 (closers around) (omega arith) (closers-bytes around)
+
+finish-bytes : (due : Due) (around : List Bracket) → Bytes (finish due around)
+finish-bytes node around = entity-bytes around
+finish-bytes object around = entity-bytes around
+finish-bytes item around = closers-bytes around
+finish-bytes next around = closers-bytes around
+finish-bytes equals around = more-bytes 61 (35 ∷ closers around) (omega arith) (entity-bytes around)
 
 -- these bytes stand from p to the end
 record Tail (t : List ℕ) (p : ℕ) (ys : List ℕ) : Type 0 where
@@ -97,10 +120,10 @@ unfolding Rest After
 good-node t room h = let x = accepts t (suc (length t - 0)) room node [] 0 h in rw (x .2) at (x .1)
 
 -- what the machine has passed begins a good input
-pub trace-begins : (s : List ℕ) (whole room p : ℕ) (due : Due) (around : List Bracket) → Trace s whole room due around p → p ≤ length s → Begins whole (take p s)
+pub trace-begins : (s : List ℕ) (whole room p : ℕ) (due : Due) (around : List Bracket) → Trace s whole room due around p → p ≤ length s → BeginsInBytes whole (take p s)
 trace-begins s whole room p due around trace h =
     let ys : List ℕ = finish due around in
     let t : List ℕ = take p s ++ ys in
     let same : 0 + whole ≡ whole = omega arith in
     let moved : Trace t (0 + whole) (0 + room) due around p = trace-moved s t 0 trace (front-alike s ys p h) in
-    (ys, good-node t whole (sym (ap (λ (n : ℕ). from t n node [] 0) same) ∙ trace-runs moved ∙ finishes t due around p (0 + room) (trace-held trace) (behind-front s ys p h)))
+    (ys, finish-bytes due around, good-node t whole (sym (ap (λ (n : ℕ). from t n node [] 0) same) ∙ trace-runs moved ∙ finishes t due around p (0 + room) (trace-held trace) (behind-front s ys p h)))

@@ -17,7 +17,7 @@ use Rattle.yson_grammar.specs.Stages.{Due, node, item, Step, stop, go, e
 use Rattle.yson_grammar.proofs.RunLaws.{token-taken, end-good, none-not-end}
 use Rattle.yson_grammar.proofs.Complete.{node-passes, deeper, derived-good}
 use Rattle.yson_grammar.proofs.Sound.{bad-good, deep-good}
-use Rattle.yson_grammar.specs.Place.{Reached, start, on, Begins, Fails, BadAt, DeepAt}
+use Rattle.yson_grammar.specs.Place.{Reached, start, on, Begins, BeginsInBytes, Fails, BadAt, DeepAt}
 use Rattle.yson_grammar.proofs.Trace.{Trace, begin, goes, enters, leaves, trace-reached, trace-runs, trace-moved, front-alike}
 use Rattle.yson_grammar.proofs.Finish.{trace-begins}
 
@@ -117,7 +117,7 @@ module _ (s : List ℕ) (room p : ℕ) (due : Due) (around : List Bracket) (trac
         (sym (lands e whole 0 ys ∙ overflow e ys (0 + room) (omega (arith, f .full)) (step due around (getD s p 0)) (f .opens))
         ∙ begun-good (take e s ++ ys) 64 (0 + 64) d (omega arith))
 
-    pub full-begins : Begins 65 (take (f .e) s)
+    pub full-begins : BeginsInBytes 65 (take (f .e) s)
     full-begins =
         let bounds : Bounded s p (end (f .e)) = rw (f .whole) at (token-bounded s p) in
         let one : 1 + room ≡ suc 0 = omega (arith, f .full) in
@@ -152,6 +152,9 @@ module _ (s : List ℕ) where
     },
     (full .e, full .whole, full-begins s room p due around trace inside full),
   )
+
+in-bytes : (room : ℕ) (xs : List ℕ) → BeginsInBytes room xs → Begins room xs
+in-bytes room xs (ys, bytes, d) = (ys, d)
 
 -- One place.
 module _ (s : List ℕ) where
@@ -200,7 +203,7 @@ module _ (s : List ℕ) where
   not-before : (p q : ℕ) → Fails s p → Fails s q → p < q → ⊥
   not-before p q f g h =
       let x = between (p + q) p q (omega arith) (f .reached) (g .reached) h in
-      f .stops (x .0) (x .1) (front-begins 64 (x .0) q (x .2) (g .begins))
+      f .stops (x .0) (x .1) (front-begins 64 (x .0) q (x .2) (in-bytes 64 (take q s) (g .begins)))
 
   pub one-place : (p q : ℕ) → Fails s p → Fails s q → p ≡ q
   one-place p q f g =
@@ -223,4 +226,4 @@ module _ (s : List ℕ) where
   pub not-both : (p q : ℕ) → BadAt s p → DeepAt s q → ⊥
   not-both p q b d =
       let same : p ≡ q = one-place s p q (b .0) (d .0) in
-      b .1 65 (d .1 .0) (ap (tokenEnd s) same ∙ d .1 .1) (d .1 .2)
+      b .1 65 (d .1 .0) (ap (tokenEnd s) same ∙ d .1 .1) (in-bytes 65 (take (d .1 .0) s) (d .1 .2))
