@@ -40,11 +40,11 @@ bare-count type (suc n) none =
     absurd (true≢false (sym some ∙ none))
 
 -- what an accepted packet is known to be: its fields are the input's, its parts few enough, and its bytes there
-record Accepts (s : List ℕ) (limits : Limits) (consumed : ℕ) (found : List ℕ) : Type 0 where
-  read : found ≡ fields s
-  few : count s ≤ limits .parts
-  some : fixedHeaderSize + partHeaderSize * count s ≤ consumed
-  inside : consumed ≤ length s
+pub record Accepts (s : List ℕ) (limits : Limits) (consumed : ℕ) (found : List ℕ) : Type 0 where
+  pub read : found ≡ fields s
+  pub few : count s ≤ limits .parts
+  pub some : fixedHeaderSize + partHeaderSize * count s ≤ consumed
+  pub inside : consumed ≤ length s
 
 module _ (s : List ℕ) (limits : Limits) (consumed : ℕ) (found : List ℕ) (e : reading s limits ≡ accepted consumed found) where
   abbrev n : ℕ
@@ -76,7 +76,7 @@ module _ (s : List ℕ) (limits : Limits) (consumed : ℕ) (found : List ℕ) (e
       accepts-as fixedHeaderSize (omega arith) (ltb-false (length s) fixedHeaderSize (passed .there))
       (sym (pass-bare s n limits passed (rest s n limits) without) ∙ fronted)
 
-  accepts : Accepts s limits consumed found
+  pub accepts : Accepts s limits consumed found
   accepts = by-header (hasVariableHeader (type s) n) refl
 
 -- a text over the front of a buffer that keeps its length fits it

@@ -27,3 +27,4 @@ pub mod Examples
 pub mod TablesKeep
 pub mod OneResult
 pub mod Refuted
+pub mod Listing

@@ -1,17 +1,41 @@
--- What `list` prints. Assumes nothing.
+-- What `list` prints: the lines by their steps, each packet behind the one before it. Assumes nothing.
 use mathlib.Core.Path.{_≡_, refl, sym, _∙_, ap, subst}
-use mathlib.Core.Bool.{Bool, true, false}
-use mathlib.Core.List.{List, [], _∷_, _++_, append-assoc}
-use Prim.Native.Nat.{ℕ, zero, suc, _+_, _*_, _-_, _<_, _≤_}
+use mathlib.Core.List.{List, _++_}
+use mathlib.Core.Logic.{⊎-elim}
+use Prim.Native.Nat.{ℕ, zero, suc, _+_, _-_, _<_, _≤_}
 use native.Mathlib.Omega.{arith}
 use borrow.Author.Tests.{lt-ltb, le-ltb, le-leb, lt-leb}
-use lib.Dec.{leb}
-use lib.ListN.{length, take, drop, getD, replicate}
+use lib.ListN.{length, take, drop, length-drop}
 use lib.Seq.{take-at}
 use Rattle.words.specs.Answer.{Answer, accepted, more, refused}
-use Rattle.words.specs.Text.{text}
-use Rattle.listing.specs.Output.{mostBytes, textRoom, linesFrom, output}
-use Rattle.promises.specs.Listing.{Printed, ListPrints}
+use Rattle.words.proofs.AcceptLaws.{acceptedCount}
+use Rattle.words.proofs.DecideLaws.{le-or-gt}
+use Rattle.packet_read.specs.Reading.{reading}
+use Rattle.listing.specs.Output.{mostBytes, textRoom, answered, linesThen, linesFrom, output}
+use Rattle.listing.proofs.WalkLaws.{accepts}
+use Rattle.promises.specs.Listing.{limits, Printed, ends, waits, refuses, goes-on, ListPrints}
 
-pub placeholder : _≡_ {A = ℕ} 0 0
-placeholder = refl
+module _ (s : List ℕ) where
+  -- by the reader's answer at an offset inside
+  by-answer : (offset : ℕ) (later : ℕ → List ℕ) → offset < length s → (a : Answer) → reading (drop offset s) limits ≡ a
+      → ((consumed : ℕ) → 0 < consumed → offset + consumed ≤ length s → Printed s (offset + consumed) (later (offset + consumed)))
+      → Printed s offset (answered s offset later a)
+  by-answer offset later inside (accepted consumed fields) e onward =
+      let known = accepts (drop offset s) limits consumed fields e in
+      goes-on offset consumed fields (later (offset + consumed)) inside e
+      (onward consumed (omega (arith, known .some)) (omega (arith, known .inside, length-drop offset s)))
+  by-answer offset later inside more e onward = waits offset inside e
+  by-answer offset later inside (refused number values consumed) e onward = refuses offset number values consumed inside e
+
+  lines-printed : (left offset : ℕ) → length s ≤ offset + left → Printed s offset (linesFrom (suc left) s offset)
+  unfolding linesFrom linesThen
+  lines-printed left offset enough =
+      ⊎-elim
+      (λ (past : length s ≤ offset). rw (le-leb (length s) offset past) (ends offset past))
+      (λ (inside : offset < length s). rw (lt-leb (length s) offset inside) (further left enough inside))
+      (le-or-gt (length s) offset)
+    where
+      further : (left : ℕ) → length s ≤ offset + left → offset < length s
+          → Printed s offset (answered s offset (linesFrom left s) (reading (drop offset s) limits))
+      further zero enough inside = absurd (omega arith)
+      further (suc left) enough inside = by-answer offset (linesFrom (suc left) s) inside (reading (drop offset s) limits) refl (λ consumed some there. lines-printed left (offset + consumed) (omega arith))

@@ -13,3 +13,4 @@ pub mod Guids
 pub mod Examples
 pub mod TablesKeep
 pub mod Refuted
+pub mod Listing

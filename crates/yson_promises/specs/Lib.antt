@@ -1,0 +1,2 @@
+-- What is guaranteed of YSON, by name.
+pub mod Yson

@@ -1,0 +1,7 @@
+-- Laws of varints and tokens, which the proofs of this crate and of those above cite.
+pub mod VarintLaws
+pub mod ReadLaws
+pub mod TokenLaws
+pub mod ScalarLaws
+pub mod LocalLaws
+pub mod Unique
