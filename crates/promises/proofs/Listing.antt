@@ -11,6 +11,8 @@ use Rattle.words.specs.Answer.{Answer, accepted, more, refused}
 use Rattle.words.proofs.AcceptLaws.{acceptedCount}
 use Rattle.words.proofs.DecideLaws.{le-or-gt}
 use Rattle.packet_read.specs.Reading.{reading}
+use Rattle.listing.specs.declared.Listed.the-variants.{Written}
+use Rattle.listing.specs.Statement.{Lists}
 use Rattle.listing.specs.Output.{mostBytes, textRoom, answered, linesThen, linesFrom, output}
 use Rattle.listing.proofs.WalkLaws.{accepts}
 use Rattle.promises.specs.Listing.{limits, Printed, ends, waits, refuses, goes-on, ListPrints}
@@ -29,13 +31,34 @@ module _ (s : List ℕ) where
 
   lines-printed : (left offset : ℕ) → length s ≤ offset + left → Printed s offset (linesFrom (suc left) s offset)
   unfolding linesFrom linesThen
-  lines-printed left offset enough =
+  lines-printed zero offset enough =
+      let past : length s ≤ offset = omega arith in
+      rw (le-leb (length s) offset past) (ends offset past)
+  lines-printed (suc left) offset enough =
       ⊎-elim
       (λ (past : length s ≤ offset). rw (le-leb (length s) offset past) (ends offset past))
-      (λ (inside : offset < length s). rw (lt-leb (length s) offset inside) (further left enough inside))
+      (λ (inside : offset < length s). rw (lt-leb (length s) offset inside)
+      (by-answer offset (linesFrom (suc left) s) inside (reading (drop offset s) limits) refl
+      (λ consumed some there. lines-printed left (offset + consumed) (omega arith))))
       (le-or-gt (length s) offset)
-    where
-      further : (left : ℕ) → length s ≤ offset + left → offset < length s
-          → Printed s offset (answered s offset (linesFrom left s) (reading (drop offset s) limits))
-      further zero enough inside = absurd (omega arith)
-      further (suc left) enough inside = by-answer offset (linesFrom (suc left) s) inside (reading (drop offset s) limits) refl (λ consumed some there. lines-printed left (offset + consumed) (omega arith))
+
+-- What `list` wrote is its whole output.
+written-whole : (s before : List ℕ) (n : ℕ) (after : List ℕ) → Lists s before (Written n) after → textRoom ≤ length before
+    → take n after ≡ output s
+written-whole s before n after told fits =
+    let roomy = le-ltb (length before) textRoom fits in
+    let count : n ≡ length (output s) = ap acceptedCount (rw roomy at (told .0)) in
+    let holds : after ≡ output s ++ drop (length (output s)) before = rw roomy at (told .1) in
+    ap (take n) holds ∙ take-at (output s) (drop (length (output s)) before) n (sym count)
+
+pub list-prints : ListPrints
+unfolding output
+list-prints s before n after told fits =
+    let whole = written-whole s before n after told fits in (
+      λ few.
+          let one-more : length s + 1 ≡ suc (length s) = omega arith in
+          let lines : take n after ≡ linesFrom (suc (length s)) s 0 =
+          whole ∙ rw (le-ltb mostBytes (length s) few) (ap (λ (k : ℕ). linesFrom k s 0) one-more) in
+          subst (Printed s 0) (sym lines) (lines-printed s (length s) 0 (omega arith)),
+      (λ long. whole ∙ rw (lt-ltb mostBytes (length s) long)),
+    )

@@ -44,14 +44,24 @@ fn say_rowset(rows: &[u64], values: &[u64], outcome: Outcome) {
 }
 
 // Tables of so many words: no case of the list asks for more than there are.
-fn decode_into(input: &[u8], rows: &mut [u64], row_words: usize, values: &mut [u64], value_words: usize) {
+fn decode_into(
+    input: &[u8],
+    rows: &mut [u64],
+    row_words: usize,
+    values: &mut [u64],
+    value_words: usize,
+) {
     if rows.len() < row_words {
         return;
     }
     if values.len() < value_words {
         return;
     }
-    let outcome = cablefinch_decode_rowset(input, &mut rows[..row_words], &mut values[..value_words]);
+    let outcome = cablefinch_decode_rowset(
+        input,
+        &mut rows[..row_words],
+        &mut values[..value_words],
+    );
     say_rowset(&rows[..row_words], &values[..value_words], outcome);
 }
 
@@ -62,7 +72,13 @@ fn rowset(line: &[u8]) {
     let count = bytes_into(&mut space, word(line, 3));
     let row_words = number(word(line, 1)) as usize;
     let value_words = entries_words(number(word(line, 2)));
-    decode_into(cut(&space, 0, count), &mut rows, row_words, &mut values, value_words);
+    decode_into(
+        cut(&space, 0, count),
+        &mut rows,
+        row_words,
+        &mut values,
+        value_words,
+    );
 }
 
 fn rowset_size(line: &[u8]) {
@@ -73,7 +89,11 @@ fn rowset_size(line: &[u8]) {
     let row_words = words_into(&mut rows, word(line, 2));
     let value_words = words_into(&mut values, word(line, 3));
     let area = cut(&space, 0, count);
-    let outcome = cablefinch_rowset_size(area, front(&rows, row_words), front(&values, value_words));
+    let outcome = cablefinch_rowset_size(
+        area,
+        front(&rows, row_words),
+        front(&values, value_words),
+    );
     if say::accepted(outcome) {
         say::number(outcome.count);
     }
@@ -99,7 +119,13 @@ fn rowset_write(line: &[u8]) {
     let row_words = words_into(&mut rows, word(line, 3));
     let value_words = words_into(&mut values, word(line, 4));
     let area = cut(&space, 0, count);
-    encode_into(area, front(&rows, row_words), front(&values, value_words), &mut out, room);
+    encode_into(
+        area,
+        front(&rows, row_words),
+        front(&values, value_words),
+        &mut out,
+        room,
+    );
 }
 
 fn value(line: &[u8]) {

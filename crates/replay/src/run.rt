@@ -128,9 +128,7 @@ fn others(line: &[u8], kind: &[u8]) {
 // The case on a line, answered on a line.
 pub(crate) fn case(line: &[u8]) {
     let kind = word(line, 0);
-    if packets::answered(line, kind) {
-    } else if rowsets::answered(line, kind) {
-    } else {
+    if packets::answered(line, kind) {} else if rowsets::answered(line, kind) {} else {
         others(line, kind);
     }
     say::text(b"\n");

@@ -76,7 +76,10 @@ pub(crate) fn parts(table: &[u64], count: usize) {
         if i == count {
             return;
         }
-        part(table[packet::ENTRY_WORDS * i], table[packet::ENTRY_WORDS * i + 1]);
+        part(
+            table[packet::ENTRY_WORDS * i],
+            table[packet::ENTRY_WORDS * i + 1],
+        );
         i += 1;
     }
 }

@@ -24,7 +24,7 @@ same-length : tie.Need-same-length
 same-length c = search needs
 
 returns : tie.Need-returns
-returns c = 
+returns c =
     let out : List ℕ = c .before .before .before .before .before .before .before .before .args .out .now in
     let id = c .before .before .before .before .before .from-bytes .ensures in
     let e = c .before .before .before .print .ensures in

@@ -58,12 +58,13 @@ returns-2 c =
     let id = c .before .before .before .before .before .from-bytes .ensures in
     let e = c .before .before .before .encode .ensures in
     let known : a .kind ≤ lastType = number-known (found .0 .0) type in
-    let so = typed-known (a .kind) (writing (a .kind) area parts (length out)) known in
-    (told (e .answer ∙ ap (λ (k : ℕ). writing k area parts (length out)) type ∙ so) (c .outcome .ensures),
+    let so = typed-known (a .kind) (writing (a .kind) area parts (length out)) known in (
+      told (e .answer ∙ ap (λ (k : ℕ). writing k area parts (length out)) type ∙ so) (c .outcome .ensures),
       e .output
-      ∙ ap (λ (k : ℕ). afterwards (writing k area parts (length out)) (packetBytes k (a .flags) (c .before .before .before .before .before .from-bytes .result) (partsOf area parts)) out) type
-      ∙ ap (λ (g : Guid). afterwards (writing (a .kind) area parts (length out)) (packetBytes (a .kind) (a .flags) g (partsOf area parts)) out) id
-      ∙ ap (λ (x : Answer). afterwards x (packetBytes (a .kind) (a .flags) (guidAt (a .id .now) 0) (partsOf area parts)) out) so)
+          ∙ ap (λ (k : ℕ). afterwards (writing k area parts (length out)) (packetBytes k (a .flags) (c .before .before .before .before .before .from-bytes .result) (partsOf area parts)) out) type
+          ∙ ap (λ (g : Guid). afterwards (writing (a .kind) area parts (length out)) (packetBytes (a .kind) (a .flags) g (partsOf area parts)) out) id
+          ∙ ap (λ (x : Answer). afterwards x (packetBytes (a .kind) (a .flags) (guidAt (a .id .now) 0) (partsOf area parts)) out) so,
+    )
 
 pub cablefinch-encode-spec : {M : Type 1} → statement M
 cablefinch-encode-spec =
