@@ -3,6 +3,7 @@ use crate::read::bytes_into;
 use crate::read::cut;
 use crate::read::front;
 use crate::read::is;
+use crate::read::least;
 use crate::read::number;
 use crate::read::output;
 use crate::read::table;
@@ -44,22 +45,18 @@ fn say_packet(parts: &[u64], outcome: Outcome) {
     say::kept_words(parts, entries_words(outcome.v6));
 }
 
-// Part tables of so many words, or all of the table where it is shorter: no case of the list asks for more.
+// Part tables of so many words, or all of the table where it is shorter: no case of the list fills that.
 
 fn decode_with_into(input: &[u8], limit: u64, ceiling: u32, parts: &mut [u64], words: usize) {
-    if parts.len() < words {
-        return;
-    }
-    let outcome = cablefinch_decode_with(input, limit, ceiling, &mut parts[..words]);
-    say_packet(&parts[..words], outcome);
+    let lent = least(words, parts.len());
+    let outcome = cablefinch_decode_with(input, limit, ceiling, &mut parts[..lent]);
+    say_packet(&parts[..lent], outcome);
 }
 
 fn decode_into(input: &[u8], limit: u64, parts: &mut [u64], words: usize) {
-    if parts.len() < words {
-        return;
-    }
-    let outcome = cablefinch_decode(input, limit, &mut parts[..words]);
-    say_packet(&parts[..words], outcome);
+    let lent = least(words, parts.len());
+    let outcome = cablefinch_decode(input, limit, &mut parts[..lent]);
+    say_packet(&parts[..lent], outcome);
 }
 
 fn packet(line: &[u8]) {
@@ -145,12 +142,7 @@ fn encode_into(line: &[u8], area: &[u8], parts: &[u64], out: &mut [u8]) {
     let wire = id_of(word(line, 3));
     let kind = number(word(line, 1));
     let flags = flags(number(word(line, 2)));
-    let room = number(word(line, 4)) as usize;
-    if out.len() < room {
-        let outcome = cablefinch_encode(kind, flags, &wire, area, parts, out);
-        say_written(out, outcome);
-        return;
-    }
+    let room = least(number(word(line, 4)) as usize, out.len());
     let outcome = cablefinch_encode(kind, flags, &wire, area, parts, &mut out[..room]);
     say_written(&out[..room], outcome);
 }

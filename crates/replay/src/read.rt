@@ -1,6 +1,6 @@
 // The words of a case, by compare/PROTOCOL.md. Every function takes every text: what is no number, hex or table reads as something.
 ghost use mathlib.Core.Path.{_≡_};
-ghost use Prim.Native.Nat.{_<_};
+ghost use Prim.Native.Nat.{_<_, _≤_};
 ghost use lib.ListN.{length};
 
 // What is lent, by functions that tell their arrays' lengths alone, so that no caller's proof looks into them.
@@ -167,6 +167,12 @@ pub(crate) fn words_into(out: &mut [u64], text: &[u8]) -> usize {
         at = end + 1;
     }
     i
+}
+
+pub(crate) fn least(a: usize, b: usize) -> usize
+    ensures { λ r. ⌜ r ≤ b ⌝ }
+{
+    if a < b { a } else { b }
 }
 
 // The first `count` words of a table, or all of it where it is shorter.

@@ -4,6 +4,7 @@ use crate::read::bytes_into;
 use crate::read::cut;
 use crate::read::front;
 use crate::read::is;
+use crate::read::least;
 use crate::read::number;
 use crate::read::output;
 use crate::read::table;
@@ -43,7 +44,7 @@ fn say_rowset(rows: &[u64], values: &[u64], outcome: Outcome) {
     say::kept_words(values, value_words);
 }
 
-// Tables of so many words: no case of the list asks for more than there are.
+// Tables of so many words, or all of a table where it is shorter: no case of the list fills that.
 fn decode_into(
     input: &[u8],
     rows: &mut [u64],
@@ -51,18 +52,14 @@ fn decode_into(
     values: &mut [u64],
     value_words: usize,
 ) {
-    if rows.len() < row_words {
-        return;
-    }
-    if values.len() < value_words {
-        return;
-    }
+    let row_count = least(row_words, rows.len());
+    let value_count = least(value_words, values.len());
     let outcome = cablefinch_decode_rowset(
         input,
-        &mut rows[..row_words],
-        &mut values[..value_words],
+        &mut rows[..row_count],
+        &mut values[..value_count],
     );
-    say_rowset(&rows[..row_words], &values[..value_words], outcome);
+    say_rowset(&rows[..row_count], &values[..value_count], outcome);
 }
 
 fn rowset(line: &[u8]) {
@@ -100,13 +97,9 @@ fn rowset_size(line: &[u8]) {
 }
 
 fn encode_into(area: &[u8], rows: &[u64], values: &[u64], out: &mut [u8], room: usize) {
-    if out.len() < room {
-        let outcome = cablefinch_encode_rowset(area, rows, values, out);
-        say_written(out, outcome);
-        return;
-    }
-    let outcome = cablefinch_encode_rowset(area, rows, values, &mut out[..room]);
-    say_written(&out[..room], outcome);
+    let lent = least(room, out.len());
+    let outcome = cablefinch_encode_rowset(area, rows, values, &mut out[..lent]);
+    say_written(&out[..lent], outcome);
 }
 
 fn rowset_write(line: &[u8]) {

@@ -6,8 +6,8 @@ use borrow.Author.Needs.{needs}
 use Rattle.replay.proofs.packets.decode_into.Statement.{statement}
 use Rattle.replay.proofs.packets.decode_into.Tie as tie
 
-returns : tie.Need-returns
-returns c = search needs
+least-requires : tie.Need-least-requires
+least-requires c κs = search needs
 
 slice-relend-prefix-cablefinch-decode : tie.Need-slice-relend-prefix-cablefinch-decode
 slice-relend-prefix-cablefinch-decode c = search needs
@@ -30,14 +30,14 @@ say-packet-requires c κs = search needs
 same-length : tie.Need-same-length
 same-length c = search needs
 
-returns-2 : tie.Need-returns-2
-returns-2 c = search needs
+returns : tie.Need-returns
+returns c = search needs
 
 pub decode-into-spec : {M : Type 1} → statement M
 decode-into-spec =
     tie.close
     (tie.spec
-    returns
+    least-requires
     slice-relend-prefix-cablefinch-decode
     slice-aggregate-cablefinch-decode
     cablefinch-decode-requires
@@ -45,4 +45,4 @@ decode-into-spec =
     slice-aggregate-say-packet
     say-packet-requires
     same-length
-    returns-2)
+    returns)

@@ -6,8 +6,8 @@ use borrow.Author.Needs.{needs}
 use Rattle.replay.proofs.packets.decode_with_into.Statement.{statement}
 use Rattle.replay.proofs.packets.decode_with_into.Tie as tie
 
-returns : tie.Need-returns
-returns c = search needs
+least-requires : tie.Need-least-requires
+least-requires c κs = search needs
 
 slice-relend-prefix-cablefinch-decode-with : tie.Need-slice-relend-prefix-cablefinch-decode-with
 slice-relend-prefix-cablefinch-decode-with c = search needs
@@ -30,14 +30,14 @@ say-packet-requires c κs = search needs
 same-length : tie.Need-same-length
 same-length c = search needs
 
-returns-2 : tie.Need-returns-2
-returns-2 c = search needs
+returns : tie.Need-returns
+returns c = search needs
 
 pub decode-with-into-spec : {M : Type 1} → statement M
 decode-with-into-spec =
     tie.close
     (tie.spec
-    returns
+    least-requires
     slice-relend-prefix-cablefinch-decode-with
     slice-aggregate-cablefinch-decode-with
     cablefinch-decode-with-requires
@@ -45,4 +45,4 @@ decode-with-into-spec =
     slice-aggregate-say-packet
     say-packet-requires
     same-length
-    returns-2)
+    returns)

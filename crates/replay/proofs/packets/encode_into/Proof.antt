@@ -33,11 +33,26 @@ word-requires-4 c κs = search needs
 number-requires-3 : tie.Need-number-requires-3
 number-requires-3 c κs = search needs
 
+least-requires : tie.Need-least-requires
+least-requires c κs = search needs
+
 slice-aggregate-cablefinch-encode : tie.Need-slice-aggregate-cablefinch-encode
 slice-aggregate-cablefinch-encode c = search needs
 
+slice-relend-prefix-cablefinch-encode : tie.Need-slice-relend-prefix-cablefinch-encode
+slice-relend-prefix-cablefinch-encode c = search needs
+
+slice-aggregate-cablefinch-encode-2 : tie.Need-slice-aggregate-cablefinch-encode-2
+slice-aggregate-cablefinch-encode-2 c = sym (length-take-le _ _ (omega arith))
+
 cablefinch-encode-requires : tie.Need-cablefinch-encode-requires
 cablefinch-encode-requires c κs = search needs
+
+slice-reshare-prefix-say-written : tie.Need-slice-reshare-prefix-say-written
+slice-reshare-prefix-say-written c = search needs
+
+slice-aggregate-say-written : tie.Need-slice-aggregate-say-written
+slice-aggregate-say-written c = sym (length-take-le _ _ (omega arith))
 
 say-written-requires : tie.Need-say-written-requires
 say-written-requires c κs = search needs
@@ -47,33 +62,6 @@ same-length c = search needs
 
 returns : tie.Need-returns
 returns c = search needs
-
-slice-aggregate-cablefinch-encode-2 : tie.Need-slice-aggregate-cablefinch-encode-2
-slice-aggregate-cablefinch-encode-2 c = search needs
-
-slice-relend-prefix-cablefinch-encode : tie.Need-slice-relend-prefix-cablefinch-encode
-slice-relend-prefix-cablefinch-encode c = search needs
-
-slice-aggregate-cablefinch-encode-3 : tie.Need-slice-aggregate-cablefinch-encode-3
-slice-aggregate-cablefinch-encode-3 c = sym (length-take-le _ _ (omega arith))
-
-cablefinch-encode-requires-2 : tie.Need-cablefinch-encode-requires-2
-cablefinch-encode-requires-2 c κs = search needs
-
-slice-reshare-prefix-say-written : tie.Need-slice-reshare-prefix-say-written
-slice-reshare-prefix-say-written c = search needs
-
-slice-aggregate-say-written : tie.Need-slice-aggregate-say-written
-slice-aggregate-say-written c = sym (length-take-le _ _ (omega arith))
-
-say-written-requires-2 : tie.Need-say-written-requires-2
-say-written-requires-2 c κs = search needs
-
-same-length-2 : tie.Need-same-length-2
-same-length-2 c = search needs
-
-returns-2 : tie.Need-returns-2
-returns-2 c = search needs
 
 pub encode-into-spec : {M : Type 1} → statement M
 encode-into-spec =
@@ -88,17 +76,13 @@ encode-into-spec =
     flags-requires
     word-requires-4
     number-requires-3
+    least-requires
     slice-aggregate-cablefinch-encode
-    cablefinch-encode-requires
-    say-written-requires
-    same-length
-    returns
-    slice-aggregate-cablefinch-encode-2
     slice-relend-prefix-cablefinch-encode
-    slice-aggregate-cablefinch-encode-3
-    cablefinch-encode-requires-2
+    slice-aggregate-cablefinch-encode-2
+    cablefinch-encode-requires
     slice-reshare-prefix-say-written
     slice-aggregate-say-written
-    say-written-requires-2
-    same-length-2
-    returns-2)
+    say-written-requires
+    same-length
+    returns)

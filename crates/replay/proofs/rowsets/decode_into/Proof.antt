@@ -6,11 +6,11 @@ use borrow.Author.Needs.{needs}
 use Rattle.replay.proofs.rowsets.decode_into.Statement.{statement}
 use Rattle.replay.proofs.rowsets.decode_into.Tie as tie
 
-returns : tie.Need-returns
-returns c = search needs
+least-requires : tie.Need-least-requires
+least-requires c κs = search needs
 
-returns-2 : tie.Need-returns-2
-returns-2 c = search needs
+least-requires-2 : tie.Need-least-requires-2
+least-requires-2 c κs = search needs
 
 slice-relend-prefix-cablefinch-decode-rowset :
     tie.Need-slice-relend-prefix-cablefinch-decode-rowset
@@ -50,15 +50,15 @@ same-length c = search needs
 same-length-2 : tie.Need-same-length-2
 same-length-2 c = search needs
 
-returns-3 : tie.Need-returns-3
-returns-3 c = search needs
+returns : tie.Need-returns
+returns c = search needs
 
 pub decode-into-spec : {M : Type 1} → statement M
 decode-into-spec =
     tie.close
     (tie.spec
-    returns
-    returns-2
+    least-requires
+    least-requires-2
     slice-relend-prefix-cablefinch-decode-rowset
     slice-aggregate-cablefinch-decode-rowset
     slice-relend-prefix-cablefinch-decode-rowset-2
@@ -71,4 +71,4 @@ decode-into-spec =
     say-rowset-requires
     same-length
     same-length-2
-    returns-3)
+    returns)

@@ -6,8 +6,24 @@ use borrow.Author.Needs.{needs}
 use Rattle.replay.proofs.rowsets.encode_into.Statement.{statement}
 use Rattle.replay.proofs.rowsets.encode_into.Tie as tie
 
+least-requires : tie.Need-least-requires
+least-requires c κs = search needs
+
+slice-relend-prefix-cablefinch-encode-rowset :
+    tie.Need-slice-relend-prefix-cablefinch-encode-rowset
+slice-relend-prefix-cablefinch-encode-rowset c = search needs
+
+slice-aggregate-cablefinch-encode-rowset : tie.Need-slice-aggregate-cablefinch-encode-rowset
+slice-aggregate-cablefinch-encode-rowset c = sym (length-take-le _ _ (omega arith))
+
 cablefinch-encode-rowset-requires : tie.Need-cablefinch-encode-rowset-requires
 cablefinch-encode-rowset-requires c κs = search needs
+
+slice-reshare-prefix-say-written : tie.Need-slice-reshare-prefix-say-written
+slice-reshare-prefix-say-written c = search needs
+
+slice-aggregate-say-written : tie.Need-slice-aggregate-say-written
+slice-aggregate-say-written c = sym (length-take-le _ _ (omega arith))
 
 say-written-requires : tie.Need-say-written-requires
 say-written-requires c κs = search needs
@@ -18,44 +34,16 @@ same-length c = search needs
 returns : tie.Need-returns
 returns c = search needs
 
-slice-relend-prefix-cablefinch-encode-rowset :
-    tie.Need-slice-relend-prefix-cablefinch-encode-rowset
-slice-relend-prefix-cablefinch-encode-rowset c = search needs
-
-slice-aggregate-cablefinch-encode-rowset : tie.Need-slice-aggregate-cablefinch-encode-rowset
-slice-aggregate-cablefinch-encode-rowset c = sym (length-take-le _ _ (omega arith))
-
-cablefinch-encode-rowset-requires-2 : tie.Need-cablefinch-encode-rowset-requires-2
-cablefinch-encode-rowset-requires-2 c κs = search needs
-
-slice-reshare-prefix-say-written : tie.Need-slice-reshare-prefix-say-written
-slice-reshare-prefix-say-written c = search needs
-
-slice-aggregate-say-written : tie.Need-slice-aggregate-say-written
-slice-aggregate-say-written c = sym (length-take-le _ _ (omega arith))
-
-say-written-requires-2 : tie.Need-say-written-requires-2
-say-written-requires-2 c κs = search needs
-
-same-length-2 : tie.Need-same-length-2
-same-length-2 c = search needs
-
-returns-2 : tie.Need-returns-2
-returns-2 c = search needs
-
 pub encode-into-spec : {M : Type 1} → statement M
 encode-into-spec =
     tie.close
     (tie.spec
-    cablefinch-encode-rowset-requires
-    say-written-requires
-    same-length
-    returns
+    least-requires
     slice-relend-prefix-cablefinch-encode-rowset
     slice-aggregate-cablefinch-encode-rowset
-    cablefinch-encode-rowset-requires-2
+    cablefinch-encode-rowset-requires
     slice-reshare-prefix-say-written
     slice-aggregate-say-written
-    say-written-requires-2
-    same-length-2
-    returns-2)
+    say-written-requires
+    same-length
+    returns)
