@@ -9,6 +9,7 @@ use Rattle.words.specs.Decide.{decide, _⇒_, _=?_}
 use Rattle.words.specs.Statement.{OneResult}
 use Rattle.words.specs.Paper.{Tells, outcome}
 use Rattle.words.proofs.Unique.{equal-to-one}
+use Rattle.words.proofs.AnswerLaws.{refused-not-accepted}
 use Rattle.words.proofs.PaperLaws.{noRoomOf, no-room-back}
 use Rattle.field.specs.declared.field.Field.the-variants.{Whole, Broken}
 use Rattle.error_tree.specs.Paper.{paper}
@@ -40,6 +41,13 @@ paper-back (NoRoom short) = ap NoRoom (no-room-back short)
 -- two refusals with one number and the same values are one
 pub paper-told : (r r′ : ErrorRefusal) → paper r ≡ paper r′ → r ≡ r′
 paper-told r r′ e = sym (paper-back r) ∙ ap paperBack e ∙ paper-back r′
+
+-- no refusal lets what follows decide
+pub passes-or-stops : (checks : Answer → Answer) (refusal : ErrorRefusal) → ((rest : Answer) → checks rest ≡ rest) → ((rest : Answer) → checks rest ≡ paper refusal) → ⊥
+passes-or-stops checks (BadMessage place) passes stops = refused-not-accepted _ _ _ _ _ (sym (stops (accepted 0 [])) ∙ passes (accepted 0 []))
+passes-or-stops checks (ErrorsTooDeep place) passes stops = refused-not-accepted _ _ _ _ _ (sym (stops (accepted 0 [])) ∙ passes (accepted 0 []))
+passes-or-stops checks (BadTable rule position) passes stops = refused-not-accepted _ _ _ _ _ (sym (stops (accepted 0 [])) ∙ passes (accepted 0 []))
+passes-or-stops checks (NoRoom short) passes stops = refused-not-accepted _ _ _ _ _ (sym (stops (accepted 0 [])) ∙ passes (accepted 0 []))
 
 pub refusal-outcome-unique : (answer : ErrorRefusal) → OneResult (Tells (paper answer))
 refusal-outcome-unique answer = equal-to-one (outcome (paper answer))
