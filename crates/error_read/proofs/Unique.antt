@@ -29,6 +29,10 @@ decoded-back (Refused (ErrorsTooDeep place)) = refl
 decoded-back (Refused (BadTable rule position)) = refl
 decoded-back (Refused (NoRoom short)) = ap Refused (paper-back (NoRoom short))
 
+-- two answers that mean the same are one
+pub decoded-told : (r r′ : Decoded) → decodedPaper r ≡ decodedPaper r′ → r ≡ r′
+decoded-told r r′ e = means-one decodedPaper decodedBack decoded-back (decodedPaper r′) r r′ e refl
+
 pub decode-error-unique : (s errors attributes : List ℕ)
     → OneResult (λ (p : Decoded × List ℕ × List ℕ). Decodes s errors attributes (p .0) (p .1) (p .2))
 decode-error-unique s errors attributes p p′ q q′ =
