@@ -4,9 +4,9 @@ use mathlib.Core.Bool.{Bool, true, false, _||_, not, true≢false}
 use mathlib.Core.List.{List}
 use Prim.Native.Nat.{ℕ, _+_, _-_, _<_, _≤_}
 use native.Mathlib.Omega.{arith}
-use borrow.Author.Tests.{ltb-true, ltb-false, ne-eqb}
+use borrow.Author.Tests.{ltb-true, ltb-false, eqb-true, ne-eqb}
 use lib.ListN.{length}
-use Rattle.words.specs.Decide.{_<?_}
+use Rattle.words.specs.Decide.{_<?_, _=?_}
 use Rattle.error_table.specs.Table.{errorsIn, attributesIn, codeIn, depthIn, textIn, textLengthIn, indexIn, keyIn, keyLengthIn, valueIn, valueLengthIn, outside, deepest, badDepth, badError, badAttribute}
 use Rattle.error_table.specs.Statement.{Sound}
 
@@ -48,6 +48,13 @@ module _ {area errors attributes : List ℕ} (sound : Sound area errors attribut
           ltb-false deepest (depthIn errors i) (or-left (deepest <? depthIn errors i) _ two),
           ltb-false (depthIn errors (i - 1) + 1) (depthIn errors i) (or-right (deepest <? depthIn errors i) _ two),
         )
+
+  -- the first error is the outermost
+  pub depth-first : depthIn errors 0 ≡ 1
+  unfolding badDepth
+  depth-first =
+      let here : badDepth errors 0 ≡ false = or-left (badDepth errors 0) _ (behind-code 0 (sound .some)) in
+      eqb-true (depthIn errors 0) 1 (not-false (depthIn errors 0 =? 1) here)
 
   module _ (k : ℕ) (below : k < attributesIn attributes) where
     good-row : badAttribute (length area) (errorsIn errors) attributes k ≡ false

@@ -6,3 +6,5 @@ pub mod InnersLaws
 pub mod MeasureLaws
 pub mod AnswerLaws
 pub mod Unique
+pub mod PutLaws
+pub mod StackLaws

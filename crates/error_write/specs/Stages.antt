@@ -5,12 +5,13 @@ use mathlib.Core.Bool.{Bool, true, false}
 use mathlib.Core.List.{List, [], _∷_}
 use lib.ListN.{length}
 use Rattle.words.specs.Answer.{Answer}
+use Rattle.words.specs.Buffer.{over}
 use Rattle.words.specs.Decide.{pick, decide, _=?_}
 use Rattle.varint.specs.Varint.{varint}
 use Rattle.error_tree.specs.Paper.{paper}
 use Rattle.error_table.specs.Table.{codeIn, textLengthIn, attributesIn, indexIn, keyLengthIn, valueLengthIn, tableOrder}
 use Rattle.error_table.specs.Statement.{Sound}
-use Rattle.error_write.specs.Written.{rowsOf, allRows}
+use Rattle.error_write.specs.Written.{delimited, attributeBytes, rowsOf, allRows}
 use Rattle.error_write.specs.Writing.{needed}
 use Rattle.error_write.specs.declared.size.Measured.{Measured}
 use Rattle.error_write.specs.declared.size.Measured.the-variants.{Size, Refused}
@@ -69,3 +70,11 @@ Pending attributes false i till = till ≡ attributesIn attributes
 -- those of the number i begin at `from`
 abbrev pub Runs : List ℕ → Bool → ℕ → ℕ → ℕ → Type 0
 Runs attributes sorted i from till = Covers attributes i from till × Pending attributes sorted i (pick sorted from till)
+
+-- an output that held `before` holds ws over its front, and they are r bytes
+abbrev pub Puts : List ℕ → List ℕ → List ℕ → ℕ → Type 0
+Puts ws before after r = (r ≡ length ws) × (after ≡ over ws before)
+
+-- the row k, in the dictionary of the error number i
+abbrev pub rowBytes : List ℕ → List ℕ → ℕ → ℕ → List ℕ
+rowBytes area attributes i k = pick (indexIn attributes k =? i) (delimited 0x0a (attributeBytes area attributes k)) []

@@ -1,3 +1,4 @@
-// How many bytes errors take as a TError, from two lent tables over a byte area: document 02's A10.
+// Errors written as a TError from two lent tables over a byte area: document 02's A10. Their size, and the pieces of the writer.
 mod rows;
 pub mod size;
+pub mod write;
