@@ -3,7 +3,11 @@ use mathlib.Core.Path.{_≡_, refl, sym, _∙_}
 use mathlib.Core.List.{List}
 use Prim.Native.Nat.{ℕ, _<_, _≤_}
 use borrow.Author.Tests.{lt-ltb, le-ltb}
+use mathlib.Core.Logic.{⊎-elim}
+use native.Mathlib.Omega.{arith}
 use lib.ListN.{length}
+use Rattle.words.proofs.DecideLaws.{le-or-gt}
+use Rattle.error_write.proofs.CappedLaws.{capped-small, capped-large}
 use Rattle.words.specs.Answer.{afterwards}
 use Rattle.words.specs.Buffer.{over}
 use Rattle.words.specs.declared.outcome.Room.the-variants.{Output}
@@ -14,7 +18,7 @@ use Rattle.error_table.specs.Statement.{Sound, ChecksTables}
 use Rattle.error_table.specs.declared.table.Verdict.{Verdict}
 use Rattle.error_table.specs.declared.table.Verdict.the-variants.{Passed, Failed}
 use Rattle.error_write.specs.Written.{errorBytes}
-use Rattle.error_write.specs.Writing.{needed, measuring, writing}
+use Rattle.error_write.specs.Writing.{mostBytes, needed, measuring, writing, capped}
 use Rattle.error_write.specs.Paper.{encodedPaper}
 use Rattle.error_write.specs.Statement.{Measures, Encodes}
 use Rattle.error_write.specs.Stages.{Sizes}
@@ -65,3 +69,13 @@ module _ (area errors attributes out : List ℕ) (r : Measured) (sizes : Sizes a
     write-done h out′ is =
         let taken : writing area errors attributes (length out) ≡ encodedPaper (E.Written n) = passes .2 _ ∙ rw (← passes .0, le-ltb (length out) n h) in
         rw taken (refl, is)
+
+    -- what the output holds was not capped
+    pub write-room : n ≤ length out → length out < mostBytes → Sound area errors attributes × (n ≡ length (errorBytes area errors attributes)) × (n ≤ length out)
+    write-room h small = (passes .1, uncapped, h)
+      where
+        uncapped : n ≡ length (errorBytes area errors attributes)
+        uncapped =
+            ⊎-elim (λ (low : length (errorBytes area errors attributes) ≤ mostBytes). passes .0 ∙ capped-small (length (errorBytes area errors attributes)) low)
+            (λ (high : mostBytes < length (errorBytes area errors attributes)). let large : capped (length (errorBytes area errors attributes)) ≡ mostBytes = capped-large (length (errorBytes area errors attributes)) (omega arith) in absurd (omega (arith, passes .0)))
+            (le-or-gt (length (errorBytes area errors attributes)) mostBytes)

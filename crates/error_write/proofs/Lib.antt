@@ -8,3 +8,4 @@ pub mod AnswerLaws
 pub mod Unique
 pub mod PutLaws
 pub mod StackLaws
+pub mod WriteLaws

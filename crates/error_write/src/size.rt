@@ -143,7 +143,7 @@ pub(crate) fn size_checked(area: &[u8], errors: &[u64], attributes: &[u64]) -> M
     }
 }
 
-// How many bytes the tables take when they are written, with the writer's checks of them.
+// How many bytes `encode_error` writes, with its checks of the tables.
 pub fn error_size(area: &[u8], errors: &[u64], attributes: &[u64]) -> Measured
     ensures { λ r. ⌜ Measures (now (area .entry)) (now (errors .entry)) (now (attributes .entry)) r ⌝ }
 {

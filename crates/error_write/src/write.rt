@@ -209,3 +209,73 @@ fn put_inner(
             entries,
         )
 }
+
+// The whole message over the front of `out`, which has the room: from the last entry to the first, as it is measured.
+fn write_errors(out: &mut [u8], area: &[u8], errors: &[u64], attributes: &[u64], total: usize)
+    requires { ⌜ Sound (now area) (now errors) (now attributes) × (total ≡ length (errorBytes (now area) (now errors) (now attributes))) × (total ≤ length (now out)) ⌝ }
+    ensures { λ _. ⌜ now (out .exit) ≡ over (errorBytes (now (area .entry)) (now (errors .entry)) (now (attributes .entry))) (now (out .entry)) ⌝ }
+{
+    let sorted = is_sorted(attributes);
+    let mut till = attributes.len() / ATTRIBUTE_ENTRY;
+    let mut sums: [u64; SUMS] = [0; SUMS];
+    let mut i = errors.len() / ERROR_ENTRY;
+    let mut at = total;
+    while 1 < i {
+        i -= 1;
+        let from = first_row(attributes, sorted, i, till);
+        let entries = entries_size(attributes, i, from, till);
+        let own = own_size(errors, i, entries);
+        let depth = errors[ERROR_ENTRY * i + 1] as usize;
+        let body = add_capped(own, sums[depth + 1]);
+        let size = 1 + varint_size(body) + (own as usize);
+        at -= size;
+        put_inner(
+            &mut out[at..],
+            area,
+            errors,
+            attributes,
+            i,
+            from,
+            till,
+            entries,
+            body,
+        );
+        till = row_before(sorted, from, till);
+        let sum = add_capped(delimited_size(body), sums[depth]);
+        sums[depth + 1] = 0;
+        sums[depth] = sum;
+    }
+    let from = first_row(attributes, sorted, 0, till);
+    let entries = entries_size(attributes, 0, from, till);
+    put_own(out, area, errors, attributes, 0, from, till, entries);
+}
+
+// Writes the tables as a TError; a refusal leaves the output as it was.
+pub fn encode_error(area: &[u8], errors: &[u64], attributes: &[u64], out: &mut [u8]) -> Encoded
+    ensures { λ r. ⌜ Encodes (now (area .entry)) (now (errors .entry)) (now (attributes .entry)) (now (out .entry)) r (now (out .exit)) ⌝ }
+{
+    match size_checked(area, errors, attributes) {
+        Measured::Refused(refusal) => Encoded::Refused(refusal),
+        Measured::Size(count) => {
+            if (out.len() as u64) < count {
+                return Encoded::Refused(ErrorRefusal::NoRoom(NoRoom {
+                    room: Room::Output,
+                    needed: count,
+                    given: out.len() as u64,
+                }));
+            }
+            write_errors(out, area, errors, attributes, count as usize);
+            Encoded::Written(count as usize)
+        }
+    }
+}
+
+// What `encode_error` answered, in words.
+pub fn encoded_outcome(answer: Encoded) -> Outcome
+    ensures { λ r. ⌜ Tells (encodedPaper answer) r ⌝ }
+{
+    match answer {
+        Encoded::Written(count) => taken(count as u64, 0, 0, 0),
+        Encoded::Refused(refusal) => refusal_outcome(refusal),
+    }
+}
