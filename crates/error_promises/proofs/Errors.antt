@@ -1,4 +1,4 @@
--- The promises of reading errors, proved. Assumes nothing.
+-- The promises of reading and writing errors, proved. Assumes nothing.
 use mathlib.Core.Path.{_≡_, refl, sym, _∙_, ap}
 use mathlib.Core.List.{List, [], _∷_, _++_, List·Memᴰ, List·Memᴰ·head, List·Memᴰ·tail}
 use mathlib.Core.Logic.{⊎-elim}
@@ -19,7 +19,7 @@ use Rattle.error_read.specs.Paper.{decodedPaper}
 use Rattle.error_read.specs.declared.decode.Decoded.the-variants.{Read}
 use Rattle.error_read.proofs.Unique.{decoded-told}
 use Rattle.error_promises.specs.Form.{WellFormed}
-use Rattle.error_promises.specs.Errors.{Roomy, ErrorAcceptsExactly, ErrorTablesKeep, LastCounts, UnknownAddsNothing}
+use Rattle.error_promises.specs.Errors.{Roomy, ErrorAcceptsExactly, ErrorTablesKeep, ErrorOutputKeeps, LastCounts, UnknownAddsNothing}
 use Rattle.error_promises.proofs.Form.{error-exact}
 
 -- the room behind the checks: the counts exactly where the tables hold them
@@ -72,6 +72,12 @@ error-tables-keep s errors attributes errors′ attributes′ (BadMessage place)
 error-tables-keep s errors attributes errors′ attributes′ (ErrorsTooDeep place) decodes = (rw (← decodes .0) at (decodes .1), rw (← decodes .0) at (decodes .2))
 error-tables-keep s errors attributes errors′ attributes′ (BadTable rule position) decodes = (rw (← decodes .0) at (decodes .1), rw (← decodes .0) at (decodes .2))
 error-tables-keep s errors attributes errors′ attributes′ (NoRoom short) decodes = (rw (← decodes .0) at (decodes .1), rw (← decodes .0) at (decodes .2))
+
+pub error-output-keeps : ErrorOutputKeeps
+error-output-keeps area errors attributes out out′ (BadMessage place) encodes = rw (← encodes .0) at (encodes .1)
+error-output-keeps area errors attributes out out′ (ErrorsTooDeep place) encodes = rw (← encodes .0) at (encodes .1)
+error-output-keeps area errors attributes out out′ (BadTable rule position) encodes = rw (← encodes .0) at (encodes .1)
+error-output-keeps area errors attributes out out′ (NoRoom short) encodes = rw (← encodes .0) at (encodes .1)
 
 latest-none : (f : ℕ → ℕ) (number : ℕ) (s gs : List ℕ) (d : ℕ) → ((g : ℕ) → List·Memᴰ g gs → numberAt s g ≡ number → ⊥) → latest f number s gs d ≡ d
 unfolding latest

@@ -1,4 +1,4 @@
--- The promises of reading errors: what is accepted, that a refusal changes nothing, which field counts. Assumes nothing.
+-- The promises of reading and writing errors: what is accepted, that a refusal changes nothing, which field counts. Assumes nothing.
 use Prim.Native.Nat.{ℕ, _≤_, _/_, _<_}
 use mathlib.Core.Path.{_≡_}
 use mathlib.Core.List.{List, _∷_, _++_, List·Memᴰ}
@@ -11,6 +11,8 @@ use Rattle.error_tree.specs.declared.refusal.ErrorRefusal.{ErrorRefusal}
 use Rattle.error_read.specs.Statement.{Decodes}
 use Rattle.error_read.specs.declared.decode.Decoded.{Decoded}
 use Rattle.error_read.specs.declared.decode.Decoded.the-variants.{Read, Refused}
+use Rattle.error_write.specs.Statement.{Encodes}
+use Rattle.error_write.specs.declared.write.Encoded.the-variants as W
 use Rattle.error_promises.specs.Form.{WellFormed}
 
 -- the tables hold the errors and the attributes
@@ -30,6 +32,11 @@ abbrev pub ErrorTablesKeep : Type 0
 ErrorTablesKeep =
     (s errors attributes errors′ attributes′ : List ℕ) (refusal : ErrorRefusal) → Decodes s errors attributes (Refused refusal) errors′ attributes′
     → (errors′ ≡ errors) × (attributes′ ≡ attributes)
+
+-- a refusal leaves the output as it was
+abbrev pub ErrorOutputKeeps : Type 0
+ErrorOutputKeeps =
+    (area errors attributes out out′ : List ℕ) (refusal : ErrorRefusal) → Encodes area errors attributes out (W.Refused refusal) out′ → out′ ≡ out
 
 -- of a repeated scalar field the last one counts: whatever stands before it, and behind it no other of its number
 abbrev pub LastCounts : Type 0
