@@ -1,4 +1,5 @@
--- The promises of reading and writing errors: what is accepted, that a refusal changes nothing, which field counts. Assumes nothing.
+-- The promises of reading and writing errors: what is accepted, that a refusal changes nothing, which field counts.
+-- Assumes nothing.
 use Prim.Native.Nat.{ℕ, _≤_, _/_, _<_}
 use mathlib.Core.Path.{_≡_}
 use mathlib.Core.List.{List, _∷_, _++_, List·Memᴰ}
@@ -30,18 +31,21 @@ ErrorAcceptsExactly =
 -- a refusal changes neither table
 abbrev pub ErrorTablesKeep : Type 0
 ErrorTablesKeep =
-    (s errors attributes errors′ attributes′ : List ℕ) (refusal : ErrorRefusal) → Decodes s errors attributes (Refused refusal) errors′ attributes′
+    (s errors attributes errors′ attributes′ : List ℕ) (refusal : ErrorRefusal)
+    → Decodes s errors attributes (Refused refusal) errors′ attributes′
     → (errors′ ≡ errors) × (attributes′ ≡ attributes)
 
 -- a refusal leaves the output as it was
 abbrev pub ErrorOutputKeeps : Type 0
 ErrorOutputKeeps =
-    (area errors attributes out out′ : List ℕ) (refusal : ErrorRefusal) → Encodes area errors attributes out (W.Refused refusal) out′ → out′ ≡ out
+    (area errors attributes out out′ : List ℕ) (refusal : ErrorRefusal)
+    → Encodes area errors attributes out (W.Refused refusal) out′ → out′ ≡ out
 
 -- of a repeated scalar field the last one counts: whatever stands before it, and behind it no other of its number
 abbrev pub LastCounts : Type 0
 LastCounts =
-    (f : ℕ → ℕ) (number : ℕ) (s fs gs : List ℕ) (at d : ℕ) → numberAt s at ≡ number → ((g : ℕ) → List·Memᴰ g gs → numberAt s g ≡ number → ⊥)
+    (f : ℕ → ℕ) (number : ℕ) (s fs gs : List ℕ) (at d : ℕ) → numberAt s at ≡ number
+    → ((g : ℕ) → List·Memᴰ g gs → numberAt s g ≡ number → ⊥)
     → latest f number s (fs ++ (at ∷ gs)) d ≡ f at
 
 -- a field that an error does not know adds nothing to it, wherever it stands among the others

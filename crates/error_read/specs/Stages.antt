@@ -1,4 +1,5 @@
--- What the private stages of the second walk promise, one to the next. Nothing here needs to be believed. Assumes nothing.
+-- What the private stages of the second walk promise, one to the next. Nothing here needs to be believed. Assumes
+-- nothing.
 use Prim.Native.Nat.{ℕ, _+_, _*_, _≤_}
 use mathlib.Core.Path.{_≡_}
 use mathlib.Core.List.{List, [], _∷_, _++_}

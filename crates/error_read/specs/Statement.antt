@@ -1,4 +1,5 @@
--- What `decode_error` promises, by name, over the input, the result and the lent tables at entry and at exit. Assumes nothing.
+-- What `decode_error` promises, by name, over the input, the result and the lent tables at entry and at exit. Assumes
+-- nothing.
 use Prim.Native.Nat.{ℕ}
 use mathlib.Core.List.{List}
 use lib.ListN.{length}

@@ -1,5 +1,5 @@
-// A TError read into lent tables: four words an error (code, depth, text offset, text length), in pre-order; five an attribute
-// (error, key offset, key length, value offset, value length), in wire order.
+// A TError read into lent tables: four words an error (code, depth, text offset, text length), in pre-order; five an
+// attribute (error, key offset, key length, value offset, value length), in wire order.
 ghost use Rattle.words.specs.Paper.{Tells};
 ghost use Rattle.error_read.specs.Paper.{decodedPaper};
 ghost use Rattle.error_read.specs.Statement.{Decodes};

@@ -1,4 +1,5 @@
-// The second walk: the tables are filled. It goes over the same fields as the first, which has shown that there is room.
+// The second walk: the tables are filled. It goes over the same fields as the first, which has shown that there is
+// room.
 ghost use mathlib.Core.Path.{_≡_};
 ghost use Prim.Native.Nat.{_≤_, _<_, _+_, _*_};
 ghost use mathlib.Core.List.{[], _∷_};
@@ -73,7 +74,8 @@ fn scan(input: &[u8], start: usize, end: usize, known: u64) -> Own
     }
 }
 
-// The attribute of the error number `index` in a dictionary's field, to the word `k` of the table on. Answers which word comes next.
+// The attribute of the error number `index` in a dictionary's field, to the word `k` of the table on. Answers which
+// word comes next.
 fn fill_entry(
     input: &[u8],
     at: usize,

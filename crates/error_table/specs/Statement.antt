@@ -18,10 +18,12 @@ pub record Sound (area errors attributes : List ℕ) : Type 0 where
   pub whole-attributes : length attributes ≡ attributeEntry * attributesIn attributes
   pub some : 0 < errorsIn errors
   pub good-error : (i : ℕ) → i < errorsIn errors → badError (length area) errors i ≡ false
-  pub good-attribute : (k : ℕ) → k < attributesIn attributes → badAttribute (length area) (errorsIn errors) attributes k ≡ false
+  pub good-attribute : (k : ℕ) → k < attributesIn attributes
+      → badAttribute (length area) (errorsIn errors) attributes k ≡ false
 
 -- where no rule of 18 is broken the tables are sound, and what follows decides; else the refusal, whatever follows
 abbrev pub ChecksTables : List ℕ → List ℕ → List ℕ → Verdict → Type 0
 ChecksTables area errors attributes Passed =
     Sound area errors attributes × ((rest : Answer) → decide (tableOrder area errors attributes) rest ≡ rest)
-ChecksTables area errors attributes (Failed refusal) = (rest : Answer) → decide (tableOrder area errors attributes) rest ≡ paper refusal
+ChecksTables area errors attributes (Failed refusal) =
+    (rest : Answer) → decide (tableOrder area errors attributes) rest ≡ paper refusal

@@ -1,5 +1,5 @@
--- The two lent tables by their words, and document 02's 18 of them in its order: 1 a width, 2 no error, 3 the first bad entry; errors
--- before attributes within a rule. Assumes nothing.
+-- The two lent tables by their words, and document 02's 18 of them in its order: 1 a width, 2 no error, 3 the first
+-- bad entry; errors before attributes within a rule. Assumes nothing.
 use Prim.Native.Nat.{ℕ, _+_, _*_, _-_, _/_, _%_}
 use mathlib.Core.Bool.{Bool, _||_, not}
 use mathlib.Core.List.{List, [], _∷_}
@@ -53,14 +53,16 @@ outside size offset n = size <? (offset + n)
 abbrev pub deepest : ℕ
 deepest = 16
 
--- a depth that no pre-order gives: 1 is the first error's alone, and another's is at most one more than the one before it has
+-- a depth that no pre-order gives: 1 is the first error's alone, and another's is at most one more than the one before
+-- it has
 unfoldable pub badDepth : List ℕ → ℕ → Bool
 badDepth errors i =
     pick (i =? 0) (depthIn errors i ≠? 1)
     (depthIn errors i <? 2 || (deepest <? depthIn errors i || (depthIn errors (i - 1) + 1) <? depthIn errors i))
 
 unfoldable pub badError : ℕ → List ℕ → ℕ → Bool
-badError size errors i = 0xffff_ffff <? codeIn errors i || (badDepth errors i || outside size (textIn errors i) (textLengthIn errors i))
+badError size errors i =
+    0xffff_ffff <? codeIn errors i || (badDepth errors i || outside size (textIn errors i) (textLengthIn errors i))
 
 -- where there are so many errors
 unfoldable pub badAttribute : ℕ → ℕ → List ℕ → ℕ → Bool

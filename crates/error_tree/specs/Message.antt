@@ -1,13 +1,13 @@
--- The three messages of a TError, by the public error.proto and attributes.proto. A message's fields are the whole fields from its
--- start on, each beginning where the one before it ends. Assumes nothing.
+-- The three messages of a TError, by the public error.proto and attributes.proto. A message's fields are the whole
+-- fields from its start on, each beginning where the one before it ends. Assumes nothing.
 use Prim.Native.Nat.{ℕ, zero, suc, _-_}
 use mathlib.Core.Bool.{Bool, _&&_, _||_}
 use mathlib.Core.List.{List, [], _∷_}
 use Rattle.words.specs.Decide.{pick, _⇒_, decide, _<?_, _=?_}
 use Rattle.field.specs.Field.{numberAt, typeAt, contentAt, stopAt, wholeField}
 
--- How many fields each message knows, numbered from 1: an error its code, text, attributes and inner errors; a dictionary its
--- attributes; an attribute its key and value
+-- How many fields each message knows, numbered from 1: an error its code, text, attributes and inner errors; a
+-- dictionary its attributes; an attribute its key and value
 
 abbrev pub errorFields : ℕ
 errorFields = 4

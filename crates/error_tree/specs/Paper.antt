@@ -1,5 +1,5 @@
--- The refusals by their numbers: 22 BadMessage and 23 ErrorsTooDeep, each with the failing field's start; 18 BadTable; 17 NoRoom.
--- Assumes nothing.
+-- The refusals by their numbers: 22 BadMessage and 23 ErrorsTooDeep, each with the failing field's start; 18 BadTable;
+-- 17 NoRoom. Assumes nothing.
 use mathlib.Core.List.{[], _∷_}
 use Rattle.words.specs.Answer.{Answer, refuse}
 use Rattle.words.specs.Paper.{noRoomValues}

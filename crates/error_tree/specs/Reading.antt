@@ -1,6 +1,6 @@
--- The order in which a TError is checked: front to back, each field finished, with all inside it, before the next begins. 22 where no
--- whole field stands before the message's end, 23 where an inner error would be the 17th level. Each stage is given what follows
--- where none of its checks holds. Assumes nothing.
+-- The order in which a TError is checked: front to back, each field finished, with all inside it, before the next
+-- begins. 22 where no whole field stands before the message's end, 23 where an inner error would be the 17th level.
+-- Each stage is given what follows where none of its checks holds. Assumes nothing.
 use Prim.Native.Nat.{ℕ, zero, suc, _/_}
 use mathlib.Core.List.{List, [], _∷_}
 use lib.ListN.{length}
@@ -41,7 +41,8 @@ checkField deeper s at rest =
 -- the inner error in the field at `at`, where there are so many levels left for it
 unfoldable pub checkInner : ℕ → List ℕ → ℕ → Answer → Answer
 checkInner zero s at rest = refuse 23 (at ∷ [])
-checkInner (suc left) s at rest = checkMessage (checkField (checkInner left s) s) errorFields s (contentAt s at) (stopAt s at) rest
+checkInner (suc left) s at rest =
+    checkMessage (checkField (checkInner left s) s) errorFields s (contentAt s at) (stopAt s at) rest
 
 abbrev pub checkError : ℕ → List ℕ → ℕ → ℕ → Answer → Answer
 checkError left s at end rest = checkMessage (checkField (checkInner left s) s) errorFields s at end rest

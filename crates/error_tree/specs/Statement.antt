@@ -19,4 +19,5 @@ ReadsKnown known s at end Broken = wholeIn known s at end ≡ false
 -- the field at `at`, as it was read
 abbrev pub Lies : List ℕ → ℕ → ℕ → ℕ → ℕ → Type 0
 Lies s at number content stop =
-    (number ≡ numberAt s at) × (content ≡ contentAt s at) × (stop ≡ stopAt s at) × (at < content) × (content ≤ stop) × (stop ≤ length s)
+    (number ≡ numberAt s at) × (content ≡ contentAt s at) × (stop ≡ stopAt s at) × (at < content) × (content ≤ stop)
+    × (stop ≤ length s)

@@ -1,5 +1,5 @@
--- The tree of errors and attributes that the fields of a TError hold, and the lent tables as functions of that tree: errors in
--- pre-order, attributes in wire order. Assumes nothing.
+-- The tree of errors and attributes that the fields of a TError hold, and the lent tables as functions of that tree:
+-- errors in pre-order, attributes in wire order. Assumes nothing.
 use Prim.Native.Nat.{ℕ, zero, suc, _+_, _%_}
 use mathlib.Core.List.{List, [], _∷_, _++_}
 use lib.ListN.{length}
@@ -53,7 +53,8 @@ errorOf s fs held more = inner (codeOf s fs) (placeOf 2 s fs) (lengthOf 2 s fs) 
 -- the inner error in the field at `at`, where there are so many levels left for it
 unfoldable pub innerPart : ℕ → List ℕ → ℕ → Parts → Parts
 innerPart zero s at more = more
-innerPart (suc left) s at more = errorOf s (inside errorFields s at) (partsWith (innerPart left s) s (inside errorFields s at)) more
+innerPart (suc left) s at more =
+    errorOf s (inside errorFields s at) (partsWith (innerPart left s) s (inside errorFields s at)) more
 
 -- what an error of so many fields holds, with so many levels left
 abbrev pub parts : ℕ → List ℕ → List ℕ → Parts
@@ -83,10 +84,12 @@ attributeCount (inner code at n held more) = attributeCount held + attributeCoun
 unfoldable pub errorWords : ℕ → Parts → List ℕ
 errorWords depth none = []
 errorWords depth (attribute k kl v vl more) = errorWords depth more
-errorWords depth (inner code at n held more) = code ∷ depth ∷ at ∷ n ∷ (errorWords (depth + 1) held ++ errorWords depth more)
+errorWords depth (inner code at n held more) =
+    code ∷ depth ∷ at ∷ n ∷ (errorWords (depth + 1) held ++ errorWords depth more)
 
 -- attributes of the error number i and of those inside it, the first of which has the number `next`
 unfoldable pub attributeWords : ℕ → ℕ → Parts → List ℕ
 attributeWords i next none = []
 attributeWords i next (attribute k kl v vl more) = i ∷ k ∷ kl ∷ v ∷ vl ∷ attributeWords i next more
-attributeWords i next (inner code at n held more) = attributeWords next (next + 1) held ++ attributeWords i (next + 1 + errorCount held) more
+attributeWords i next (inner code at n held more) =
+    attributeWords next (next + 1) held ++ attributeWords i (next + 1 + errorCount held) more

@@ -1,4 +1,5 @@
--- What the private stages of the first walk promise, one to the next. Nothing here needs to be believed. Assumes nothing.
+-- What the private stages of the first walk promise, one to the next. Nothing here needs to be believed. Assumes
+-- nothing.
 use Prim.Native.Nat.{ℕ, _+_, _-_, _≤_}
 use mathlib.Core.Path.{_≡_}
 use mathlib.Core.List.{List, [], _∷_}
@@ -12,10 +13,11 @@ use Rattle.error_tree.specs.Paper.{paper}
 use Rattle.error_walk.specs.declared.walk.Walked.{Walked}
 use Rattle.error_walk.specs.declared.walk.Walked.the-variants.{Counted, Stopped}
 
--- Where none of a stage's checks holds, what follows decides, and so many errors and attributes were passed, at most one for each of
--- so many bytes; else the refusal, whatever follows.
+-- Where none of a stage's checks holds, what follows decides, and so many errors and attributes were passed, at most
+-- one for each of so many bytes; else the refusal, whatever follows.
 abbrev pub Walk : (Answer → Answer) → ℕ → ℕ → ℕ → Walked → Type 0
-Walk checks errors attributes bytes (Counted e a) = (e ≡ errors) × (a ≡ attributes) × (e + a ≤ bytes) × ((rest : Answer) → checks rest ≡ rest)
+Walk checks errors attributes bytes (Counted e a) =
+    (e ≡ errors) × (a ≡ attributes) × (e + a ≤ bytes) × ((rest : Answer) → checks rest ≡ rest)
 Walk checks errors attributes bytes (Stopped refusal) = (rest : Answer) → checks rest ≡ paper refusal
 
 -- so much for each field
@@ -55,7 +57,9 @@ abbrev pub innerAttributes : ℕ → List ℕ → ℕ → ℕ
 innerAttributes left s at = attributeCount (fieldParts (innerPart left s) s at none)
 
 abbrev pub WalksInside : ℕ → List ℕ → ℕ → Walked → Type 0
-WalksInside left s at r = WalksField (checkField (checkInner left s) s) (innerErrors left s) (innerAttributes left s) s at r
+WalksInside left s at r =
+    WalksField (checkField (checkInner left s) s) (innerErrors left s) (innerAttributes left s) s at r
 
 abbrev pub WalksError : ℕ → List ℕ → ℕ → ℕ → Walked → Type 0
-WalksError left s at end r = WalksMessage (checkField (checkInner left s) s) (innerErrors left s) (innerAttributes left s) errorFields s at end r
+WalksError left s at end r =
+    WalksMessage (checkField (checkInner left s) s) (innerErrors left s) (innerAttributes left s) errorFields s at end r

@@ -50,8 +50,10 @@ ownSize errors i entries = leadSize (codeIn errors i) + delimitedSize (textLengt
 -- where no rule of 18 is broken the tables are sound and this is their size; else the refusal, whatever follows
 abbrev pub Sizes : List ℕ → List ℕ → List ℕ → Measured → Type 0
 Sizes area errors attributes (Size n) =
-    (n ≡ needed area errors attributes) × Sound area errors attributes × ((rest : Answer) → decide (tableOrder area errors attributes) rest ≡ rest)
-Sizes area errors attributes (Refused refusal) = (rest : Answer) → decide (tableOrder area errors attributes) rest ≡ paper refusal
+    (n ≡ needed area errors attributes) × Sound area errors attributes
+    × ((rest : Answer) → decide (tableOrder area errors attributes) rest ≡ rest)
+Sizes area errors attributes (Refused refusal) =
+    (rest : Answer) → decide (tableOrder area errors attributes) rest ≡ paper refusal
 
 -- no row has a smaller index than one before it
 abbrev pub Sorted : List ℕ → Type 0
@@ -61,10 +63,12 @@ abbrev pub TellsSorted : List ℕ → Bool → Type 0
 TellsSorted attributes true = Sorted attributes
 TellsSorted attributes false = Unit {0}
 
--- the rows of the errors before the number i end at till: all rows, or, where they are sorted, those with an index below i
+-- the rows of the errors before the number i end at till: all rows, or, where they are sorted, those with an index
+-- below i
 abbrev pub Pending : List ℕ → Bool → ℕ → ℕ → Type 0
 Pending attributes true i till =
-    Sorted attributes × (till ≤ attributesIn attributes) × ((k : ℕ) → till ≤ k → k < attributesIn attributes → i ≤ indexIn attributes k)
+    Sorted attributes × (till ≤ attributesIn attributes)
+    × ((k : ℕ) → till ≤ k → k < attributesIn attributes → i ≤ indexIn attributes k)
 Pending attributes false i till = till ≡ attributesIn attributes
 
 -- those of the number i begin at `from`

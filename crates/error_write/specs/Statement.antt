@@ -1,4 +1,5 @@
--- What the public functions promise, by name, over the inputs, the result and the output at entry and at exit. Assumes nothing.
+-- What the public functions promise, by name, over the inputs, the result and the output at entry and at exit. Assumes
+-- nothing.
 use Prim.Native.Nat.{ℕ}
 use mathlib.Core.List.{List}
 use lib.ListN.{length}

@@ -1,4 +1,5 @@
--- The order in which errors are written from lent tables: 18, then 17. The size has the same checks but 17. Assumes nothing.
+-- The order in which errors are written from lent tables: 18, then 17. The size has the same checks but 17. Assumes
+-- nothing.
 use Prim.Native.Nat.{ℕ}
 use mathlib.Core.List.{List, [], _∷_}
 use lib.ListN.{length}
@@ -28,5 +29,6 @@ measuring area errors attributes =
 -- what writing into an output of so many bytes answers: how many are written
 unfoldable pub writing : List ℕ → List ℕ → List ℕ → ℕ → Answer
 writing area errors attributes room =
-    let bytes = decide (roomLine Output (needed area errors attributes) room ∷ []) (accepted (needed area errors attributes) []) in
+    let bytes =
+    decide (roomLine Output (needed area errors attributes) room ∷ []) (accepted (needed area errors attributes) []) in
     decide (tableOrder area errors attributes) bytes

@@ -1,6 +1,6 @@
--- The written form, one function from two tables over a byte area to bytes, after document 02: code and text always, one dictionary if
--- any, then the inner errors; the shortest varints. Entries are in pre-order with their depths; an error's attributes are all rows
--- with its index, in the table's order. Assumes nothing.
+-- The written form, one function from two tables over a byte area to bytes, after document 02: code and text always,
+-- one dictionary if any, then the inner errors; the shortest varints. Entries are in pre-order with their depths; an
+-- error's attributes are all rows with its index, in the table's order. Assumes nothing.
 use Prim.Native.Nat.{ℕ, zero, suc, _+_, _-_}
 use mathlib.Core.List.{List, [], _∷_, _++_}
 use lib.ListN.{length}
@@ -35,7 +35,8 @@ allRows attributes i = rowsOf attributes i (attributesIn attributes) 0
 -- TAttributeDictionary: 1 attributes
 unfoldable pub entriesBytes : List ℕ → List ℕ → List ℕ → List ℕ
 entriesBytes area attributes [] = []
-entriesBytes area attributes (k ∷ ks) = delimited 0x0a (attributeBytes area attributes k) ++ entriesBytes area attributes ks
+entriesBytes area attributes (k ∷ ks) =
+    delimited 0x0a (attributeBytes area attributes k) ++ entriesBytes area attributes ks
 
 -- one dictionary if any
 abbrev pub dictionaryBytes : List ℕ → List ℕ
@@ -49,13 +50,15 @@ ownBytes area errors attributes i =
     ++ (delimited 0x12 (stretch area (textIn errors i) (textLengthIn errors i))
     ++ dictionaryBytes (entriesBytes area attributes (allRows attributes i)))
 
--- 4 inner_errors: those of depth d among n entries from number i on, up to the first that is less deep. Deeper ones belong to the
--- error before them.
+-- 4 inner_errors: those of depth d among n entries from number i on, up to the first that is less deep. Deeper ones
+-- belong to the error before them.
 unfoldable pub innersBytes : List ℕ → List ℕ → List ℕ → ℕ → ℕ → ℕ → List ℕ
 innersBytes area errors attributes d zero i = []
 innersBytes area errors attributes d (suc n) i =
     let others = innersBytes area errors attributes d n (i + 1) in
-    let one = delimited 0x22 (ownBytes area errors attributes i ++ innersBytes area errors attributes (d + 1) n (i + 1)) ++ others in
+    let one =
+    delimited 0x22 (ownBytes area errors attributes i ++ innersBytes area errors attributes (d + 1) n (i + 1))
+    ++ others in
     decide (depthIn errors i <? d ⇒ [] ∷ d <? depthIn errors i ⇒ others ∷ []) one
 
 -- the outermost error, without tag and length

@@ -1,5 +1,6 @@
-// Which rows of the attributes an error has. Where the rows stand in the errors' order, as every known writer leaves them, an error's
-// are the run before those of the error behind it, and the cursor `till` goes back with the errors; else all rows are looked through.
+// Which rows of the attributes an error has. Where the rows stand in the errors' order, as every known writer leaves
+// them, an error's are the run before those of the error behind it, and the cursor `till` goes back with the errors;
+// else all rows are looked through.
 ghost use mathlib.Core.Path.{_≡_};
 ghost use Prim.Native.Nat.{_+_};
 ghost use Rattle.words.specs.Decide.{pick};

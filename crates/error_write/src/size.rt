@@ -1,5 +1,5 @@
-// How many bytes errors take. The entries are taken from the last to the first, with a sum for each depth, so that each is seen once.
-// Sums stop at 2^64 - 1.
+// How many bytes errors take. The entries are taken from the last to the first, with a sum for each depth, so that
+// each is seen once. Sums stop at 2^64 - 1.
 ghost use mathlib.Core.Path.{_≡_};
 ghost use Prim.Native.Nat.{_+_, _*_, _<_, _≤_};
 ghost use lib.ListN.{length};
@@ -107,8 +107,8 @@ pub(crate) fn own_size(errors: &[u64], i: usize, entries: u64) -> u64
     add_capped(head, dictionary_size(entries))
 }
 
-// The whole message's bytes, at most `MOST_BYTES`. `sums[d]` is the size of the inner errors of depth d that begin at the entry
-// number `i` or behind it and belong to an error before it.
+// The whole message's bytes, at most `MOST_BYTES`. `sums[d]` is the size of the inner errors of depth d that begin at
+// the entry number `i` or behind it and belong to an error before it.
 fn measure(area: &[u8], errors: &[u64], attributes: &[u64]) -> u64
     requires { ⌜ Sound (now area) (now errors) (now attributes) ⌝ }
     ensures { λ r. ⌜ r ≡ needed (now (area .entry)) (now (errors .entry)) (now (attributes .entry)) ⌝ }

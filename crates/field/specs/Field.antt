@@ -1,6 +1,6 @@
--- A field on the wire: a tag, which is eight times the field's number and its wire type, then a payload by that type: 0 a varint,
--- 1 eight bytes, 2 a varint n and n bytes, 5 four bytes. Every offset has a field; whether it is whole, by the end of the
--- message that it stands in, is a test. Assumes nothing.
+-- A field on the wire: a tag, which is eight times the field's number and its wire type, then a payload by that type:
+-- 0 a varint, 1 eight bytes, 2 a varint n and n bytes, 5 four bytes. Every offset has a field; whether it is whole, by
+-- the end of the message that it stands in, is a test. Assumes nothing.
 use Prim.Native.Nat.{ℕ, _+_, _/_, _%_}
 use mathlib.Core.Bool.{Bool, false, _&&_}
 use mathlib.Core.List.{List, [], _∷_}
@@ -60,4 +60,5 @@ stopAt s at = payloadStop (typeAt s at) s (varintEnd s at)
 -- the field is whole by `end`: its tag is below 2 ^ 32, its number not 0, its type one of the four
 unfoldable pub wholeField : List ℕ → ℕ → ℕ → Bool
 wholeField s at end =
-    wholeVarint s at end && (tagAt s at <? 0x1_0000_0000 && (7 <? tagAt s at && wholePayload (typeAt s at) s (varintEnd s at) end))
+    wholeVarint s at end
+    && (tagAt s at <? 0x1_0000_0000 && (7 <? tagAt s at && wholePayload (typeAt s at) s (varintEnd s at) end))

@@ -11,7 +11,8 @@ use Rattle.field.specs.declared.field.Field.the-variants as F
 
 abbrev pub ReadsPayload : ℕ → List ℕ → ℕ → ℕ → Payload → Type 0
 ReadsPayload type s at end (P.Held value content stop) =
-    (wholePayload type s at end ≡ true) × (value ≡ payloadValue type s at) × (content ≡ payloadContent type s at) × (stop ≡ payloadStop type s at)
+    (wholePayload type s at end ≡ true) × (value ≡ payloadValue type s at) × (content ≡ payloadContent type s at)
+    × (stop ≡ payloadStop type s at)
     × (at ≤ content) × (content ≤ stop) × (stop ≤ end)
 ReadsPayload type s at end P.Cut = wholePayload type s at end ≡ false
 

@@ -1,4 +1,5 @@
--- What each public function promises, by name, over the inputs, the result and the lent part at entry and at exit. Assumes nothing.
+-- What each public function promises, by name, over the inputs, the result and the lent part at entry and at exit.
+-- Assumes nothing.
 use Prim.Native.Nat.{ℕ}
 use mathlib.Core.Path.{_≡_}
 use mathlib.Core.Bool.{true, false}
@@ -11,7 +12,8 @@ use Rattle.varint.specs.declared.read.Varint.the-variants.{Whole, Broken
 
 -- the varint at `at`, and where it ends; or none that ends by `end`
 abbrev pub ReadsVarint : List ℕ → ℕ → ℕ → Varint → Type 0
-ReadsVarint s at end (Whole value next) = (wholeVarint s at end ≡ true) × (value ≡ varintAt s at) × (next ≡ varintEnd s at)
+ReadsVarint s at end (Whole value next) =
+    (wholeVarint s at end ≡ true) × (value ≡ varintAt s at) × (next ≡ varintEnd s at)
 ReadsVarint s at end Broken = wholeVarint s at end ≡ false
 
 -- how many bytes the shortest varint of n has

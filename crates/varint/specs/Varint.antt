@@ -33,7 +33,8 @@ varintEnd s at = at + varintSize s at
 -- one stands at `at` that ends by `end`, to which s reaches: ten bytes at most, below 2 ^ 64
 abbrev pub wholeVarint : List ℕ → ℕ → ℕ → Bool
 wholeVarint s at end =
-    end <? (length s + 1) && (varintEnd s at <? (end + 1) && (varintSize s at <? 11 && varintAt s at <? 0x1_0000_0000_0000_0000))
+    end <? (length s + 1)
+    && (varintEnd s at <? (end + 1) && (varintSize s at <? 11 && varintAt s at <? 0x1_0000_0000_0000_0000))
 
 -- What is written: the shortest one, k bytes at most
 unfoldable pub groups : ℕ → ℕ → List ℕ

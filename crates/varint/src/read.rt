@@ -1,4 +1,5 @@
-// A varint read at an offset, up to an end that its bytes may not pass. Where the input does not reach to that end, none is whole.
+// A varint read at an offset, up to an end that its bytes may not pass. Where the input does not reach to that end,
+// none is whole.
 ghost use mathlib.Core.Path.{_≡_};
 ghost use Prim.Native.Nat.{_≤_, _<_};
 ghost use lib.ListN.{length};
