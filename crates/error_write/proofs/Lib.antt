@@ -9,3 +9,4 @@ pub mod Unique
 pub mod PutLaws
 pub mod StackLaws
 pub mod WriteLaws
+pub mod Examples
