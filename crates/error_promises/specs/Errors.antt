@@ -1,0 +1,56 @@
+-- The promises of reading and writing errors: what is accepted, that a refusal changes nothing, which field counts.
+-- Assumes nothing.
+use Prim.Native.Nat.{ℕ, _≤_, _/_, _<_}
+use mathlib.Core.Path.{_≡_}
+use mathlib.Core.List.{List, _∷_, _++_, List·Memᴰ}
+use lib.ListN.{length}
+use Rattle.field.specs.Field.{numberAt}
+use Rattle.error_tree.specs.Message.{errorFields, latest}
+use Rattle.error_tree.specs.Tree.{Parts, tree, errorCount, attributeCount, partsWith}
+use Rattle.error_tree.specs.Reading.{errorEntry, attributeEntry}
+use Rattle.error_tree.specs.declared.refusal.ErrorRefusal.{ErrorRefusal}
+use Rattle.error_read.specs.Statement.{Decodes}
+use Rattle.error_read.specs.declared.decode.Decoded.{Decoded}
+use Rattle.error_read.specs.declared.decode.Decoded.the-variants.{Read, Refused}
+use Rattle.error_write.specs.Statement.{Encodes}
+use Rattle.error_write.specs.declared.write.Encoded.the-variants as W
+use Rattle.error_promises.specs.Form.{WellFormed}
+
+-- the tables hold the errors and the attributes
+pub record Roomy (s errors attributes : List ℕ) : Type 0 where
+  pub errors-fit : errorCount (tree s) ≤ length errors / errorEntry
+  pub attributes-fit : attributeCount (tree s) ≤ length attributes / attributeEntry
+
+-- `decode_error` reads exactly the inputs that are a TError, into tables that hold it
+abbrev pub ErrorAcceptsExactly : Type 0
+ErrorAcceptsExactly =
+    (s errors attributes errors′ attributes′ : List ℕ) (r : Decoded) → Decodes s errors attributes r errors′ attributes′
+    → (WellFormed s → Roomy s errors attributes → r ≡ Read (errorCount (tree s)) (attributeCount (tree s)))
+    × ((n m : ℕ) → r ≡ Read n m → WellFormed s × Roomy s errors attributes × (n ≡ errorCount (tree s)) × (m ≡ attributeCount (tree s)))
+
+-- a refusal changes neither table
+abbrev pub ErrorTablesKeep : Type 0
+ErrorTablesKeep =
+    (s errors attributes errors′ attributes′ : List ℕ) (refusal : ErrorRefusal)
+    → Decodes s errors attributes (Refused refusal) errors′ attributes′
+    → (errors′ ≡ errors) × (attributes′ ≡ attributes)
+
+-- a refusal leaves the output as it was
+abbrev pub ErrorOutputKeeps : Type 0
+ErrorOutputKeeps =
+    (area errors attributes out out′ : List ℕ) (refusal : ErrorRefusal)
+    → Encodes area errors attributes out (W.Refused refusal) out′ → out′ ≡ out
+
+-- of a repeated scalar field the last one counts: whatever stands before it, and behind it no other of its number
+abbrev pub LastCounts : Type 0
+LastCounts =
+    (f : ℕ → ℕ) (number : ℕ) (s fs gs : List ℕ) (at d : ℕ) → numberAt s at ≡ number
+    → ((g : ℕ) → List·Memᴰ g gs → numberAt s g ≡ number → ⊥)
+    → latest f number s (fs ++ (at ∷ gs)) d ≡ f at
+
+-- a field that an error does not know adds nothing to it, wherever it stands among the others
+abbrev pub UnknownAddsNothing : Type 0
+UnknownAddsNothing =
+    (s fs gs : List ℕ) (at : ℕ) → errorFields < numberAt s at
+    → ((deeper : ℕ → Parts → Parts) → partsWith deeper s (fs ++ (at ∷ gs)) ≡ partsWith deeper s (fs ++ gs))
+    × ((f : ℕ → ℕ) (number d : ℕ) → number ≤ errorFields → latest f number s (fs ++ (at ∷ gs)) d ≡ latest f number s (fs ++ gs) d)

@@ -1,0 +1,3 @@
+-- What is guaranteed of error messages, by name.
+pub mod Form
+pub mod Errors

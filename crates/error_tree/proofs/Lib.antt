@@ -1,0 +1,4 @@
+pub mod MessageLaws
+pub mod TreeLaws
+pub mod Examples
+pub mod Unique

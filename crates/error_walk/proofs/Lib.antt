@@ -1,0 +1,5 @@
+pub mod CountLaws
+pub mod WalkLaws
+pub mod InsideLaws
+pub mod AllLaws
+pub mod Unique

@@ -1,0 +1,12 @@
+pub mod CappedLaws
+pub mod SizeLaws
+pub mod RowLaws
+pub mod LengthLaws
+pub mod InnersLaws
+pub mod MeasureLaws
+pub mod AnswerLaws
+pub mod Unique
+pub mod PutLaws
+pub mod StackLaws
+pub mod WriteLaws
+pub mod Examples

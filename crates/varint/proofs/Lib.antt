@@ -1,0 +1,5 @@
+pub mod VarintLaws
+pub mod ReadLaws
+pub mod WriteLaws
+pub mod RoundLaws
+pub mod Unique
