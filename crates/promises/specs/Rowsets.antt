@@ -1,5 +1,5 @@
 -- Demand 2 for rowsets: every row in its place. A lookup answers one row per event in the order asked, and a null row for an
--- event without terms; fold one away, and each later glossary slides to its neighbour's title. Assumes nothing.
+-- event without terms. If one were dropped, every later glossary would appear under the wrong title. Assumes nothing.
 use Prim.Native.Nat.{ℕ, _+_, _*_, _/_, _^_, _≤_, _<_}
 use mathlib.Core.Bool.{Bool, true}
 use mathlib.Core.List.{List}

@@ -1,4 +1,4 @@
-// Words and runs of bytes written to the front of a lent part. What has not the room leaves the part as it was.
+// Words and runs of bytes written to the front of a lent part. What does not fit is not written at all.
 ghost use lib.ListN.{replicate};
 ghost use Rattle.words.specs.Word.{bytesOf};
 ghost use Rattle.words.specs.Statement.{Leaves};
