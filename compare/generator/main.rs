@@ -22,7 +22,7 @@ use text::{hex, hex_or_dash};
 type Make = fn(&mut Random) -> String;
 
 /// Each kind with its share of a run.
-const KINDS: [(&str, u64, Make); 18] = [
+const KINDS: [(&str, u64, Make); 23] = [
     ("crc", 30, crc),
     ("checksum", 20, checksum),
     ("guid-print", 20, guid_print),
@@ -33,6 +33,11 @@ const KINDS: [(&str, u64, Make); 18] = [
     ("packet-write", 90, packets::write),
     ("packet-size", 30, packets::size),
     ("validate", 25, packets::validate),
+    ("packet-live", 80, packets::read_live),
+    ("packet-default-live", 20, packets::read_default_live),
+    ("packet-write-live", 30, packets::write_live),
+    ("packet-size-live", 15, packets::size_live),
+    ("validate-live", 15, packets::validate_live),
     ("part", 45, packets::part),
     ("contains", 10, contains),
     ("rowset", 140, rowsets::read),
@@ -240,7 +245,7 @@ fn field(random: &mut Random) -> Vec<u8> {
 
 /// Lines that are no case: another kind, a word too many or too few, digits that are none.
 fn bad(random: &mut Random) -> String {
-    let (_, _, make) = KINDS[random.below(17) as usize];
+    let (_, _, make) = KINDS[random.below(22) as usize];
     let line = make(random);
     match random.below(4) {
         0 => format!("un{line}"),

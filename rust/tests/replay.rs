@@ -7,7 +7,7 @@
 //! crate's own grow) or broken (18, where the crate's own are not), lone entries (`part`) and lone
 //! values (`value`); and lines that are no case, or to which the original has no answer.
 
-use cablefinch::packet::{self, Packet, PacketError, PacketFlags, PacketType, Part};
+use cablefinch::packet::{self, Mode, Packet, PacketError, PacketFlags, PacketType, Part};
 use cablefinch::wire::{self, Rowset, UnversionedValue, Value, WireError};
 use cablefinch::{Crc64, Guid, checksum};
 use std::collections::BTreeMap;
@@ -74,9 +74,20 @@ fn enormous(case: &str) -> bool {
     case.starts_with("packet-write ") && table.starts_with('z')
 }
 
+/// The mode that a case is in, by the end of its kind, and its words without that.
+fn mode_and_words(case: &str) -> (Mode, Vec<&str>) {
+    let mut words: Vec<&str> = case.split(' ').collect();
+    let mut mode = Mode::Archive;
+    if let Some(kind) = words[0].strip_suffix("-live") {
+        words[0] = kind;
+        mode = Mode::Live;
+    }
+    (mode, words)
+}
+
 /// The crate's answer, or none where the case is left aside.
 fn answer(case: &str, expected: &str) -> Option<String> {
-    let words: Vec<&str> = case.split(' ').collect();
+    let (mode, words) = mode_and_words(case);
     Some(match words[..] {
         ["crc", ref stretches @ ..] => {
             let sum = stretches
@@ -104,19 +115,19 @@ fn answer(case: &str, expected: &str) -> Option<String> {
         ["packet", limit, ceiling, _, input] => {
             let input = bytes(input);
             let ceiling = number(ceiling) as u32;
-            let read = packet::decode_with(&input, number(limit), ceiling);
+            let read = packet::decode_with(mode, &input, number(limit), ceiling);
             return packet_read(read, &input, expected);
         }
         ["packet-default", limit, _, input] => {
             let input = bytes(input);
-            let read = packet::decode(&input, number(limit));
+            let read = packet::decode(mode, &input, number(limit));
             return packet_read(read, &input, expected);
         }
         ["packet-write", kind, flags, id, _, area, table] => {
             let area = bytes(area);
             let packet = made_packet(kind, flags, id, &area, table)?;
             let mut out = Vec::new();
-            match packet::encode(&packet, &mut out) {
+            match packet::encode(mode, &packet, &mut out) {
                 Ok(()) if short(expected, out.len()) => return None,
                 Ok(()) => format!("ok {} {}", out.len(), hex(&out)),
                 Err(error) => refused_packet(&error, None),
@@ -124,14 +135,14 @@ fn answer(case: &str, expected: &str) -> Option<String> {
         }
         ["packet-size", kind, flags, id, area, table] => {
             let area = bytes(area);
-            match packet::encoded_size(&made_packet(kind, flags, id, &area, table)?) {
+            match packet::encoded_size(mode, &made_packet(kind, flags, id, &area, table)?) {
                 Ok(size) => format!("ok {size}"),
                 Err(error) => refused_packet(&error, None),
             }
         }
         ["validate", kind, flags, id, area, table] => {
             let area = bytes(area);
-            match packet::validate(&made_packet(kind, flags, id, &area, table)?) {
+            match packet::validate(mode, &made_packet(kind, flags, id, &area, table)?) {
                 Ok(()) => "ok".to_string(),
                 Err(error) => refused_packet(&error, None),
             }
@@ -380,6 +391,7 @@ fn refused_packet(error: &PacketError, consumed: Option<usize>) -> String {
             actual,
         } => vec![index as u64, expected, actual],
         PacketError::MessageTooLarge { size, limit } => vec![size, limit],
+        PacketError::RetiredType(found) => vec![found.into()],
         other => panic!("{other}"),
     };
     let consumed = consumed.map(|bytes| bytes as u64);

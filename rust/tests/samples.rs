@@ -4,7 +4,7 @@ use cablefinch::{packet, wire};
 use std::fmt::Write as _;
 
 fn listing(input: &[u8]) -> String {
-    let mut decoder = packet::Decoder::new();
+    let mut decoder = packet::Decoder::archive();
     let mut text = String::new();
     let mut offset = 0;
     loop {
@@ -69,7 +69,9 @@ fn the_parts_of_the_terms_are_plain_rowsets() {
     let mut rowsets = wire::Decoder::new();
     let mut offset = 0;
     let mut nulls = Vec::new();
-    while let Some(decoded) = packet::decode(&input[offset..], 1 << 20).unwrap() {
+    while let Some(decoded) =
+        packet::decode(packet::Mode::Archive, &input[offset..], 1 << 20).unwrap()
+    {
         for part in &decoded.packet.parts {
             let Some(part) = part else { continue };
             assert!(wire::is_plain(part));

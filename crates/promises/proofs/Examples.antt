@@ -13,4 +13,4 @@ use Rattle.promises.specs.Examples.{Examples}
 
 pub examples : Examples
 unfolding Word.bytesOf Word.word Decide.firstFrom Polynomial.step Polynomial.steps Polynomial.foldByte Polynomial.fold Number.digit Number.spelled Text.textOf Number.digitOf Text.digits Text.some Text.field Text.behind Text.walk Layout.takenBefore Packet.fixedLines Packet.countLines Packet.variableLines Packet.sizeLines Packet.partLines Packet.roomLines Packet.order Packet.reading Value.rowWords Rowset.valuesLines Rowset.rowsLines Rowset.inputLines Rowset.readingLines Rowset.reading Value.nextRows Value.nextRow Value.nextValues Value.valueCount
-examples = (refl, refl, refl, refl, refl, refl, refl, refl, refl, refl, refl, refl, refl, refl, refl, refl)
+examples = (refl, refl, refl, refl, refl, refl, refl, refl, refl, refl, refl, refl, refl, refl, refl, refl, refl, refl, refl)

@@ -1,5 +1,5 @@
--- Document 01's examples that are marked P, in one table: what the definitions answer is what the document says.
--- Assumes nothing.
+-- Document 01's examples that are marked P, in one table: what the definitions answer is what the document says. Behind
+-- them three of document 02's A12: an SslAck in each mode, and type 258. Assumes nothing.
 use Prim.Native.Nat.{ℕ, _^_, _-_}
 use mathlib.Core.List.{List, [], _∷_, _++_}
 use mathlib.Core.Path.{_≡_}
@@ -10,6 +10,7 @@ use Rattle.words.specs.Text.{text}
 use Rattle.crc64.specs.Polynomial.{checksum}
 use Rattle.guid.specs.Guid.{guidOf}
 use Rattle.guid.specs.Text.{textOf, reading as readingText}
+use Rattle.packet.specs.declared.Mode.the-variants.{Archive, Live}
 use Rattle.packet_read.specs.Reading.{limited, reading as readingPacket}
 use Rattle.wire.specs.Layout.{rowWords}
 use Rattle.wire_read.specs.Reading.{reading as readingRowset}
@@ -48,6 +49,9 @@ Examples =
     × (rowWords nullRow 1 8 ≡ (2 ^ 64 - 1) ∷ [])
     × (readingRowset emptyRow 1 0 ≡ accepted 0 (1 ∷ 0 ∷ []))
     × (rowWords emptyRow 1 8 ≡ 0 ∷ [])
-    × (readingPacket ack (limited 0 65_536 []) ≡ accepted 36 (1 ∷ 0 ∷ 1 ∷ 2 ∷ 3 ∷ 4 ∷ 0 ∷ []))
-    × (readingPacket (take 35 ack) (limited 0 65_536 []) ≡ more)
-    × (readingPacket message (limited 43 65_536 []) ≡ refuse 8 (44 ∷ 43 ∷ []))
+    × (readingPacket ack (limited Archive 0 65_536 []) ≡ accepted 36 (1 ∷ 0 ∷ 1 ∷ 2 ∷ 3 ∷ 4 ∷ 0 ∷ []))
+    × (readingPacket (take 35 ack) (limited Archive 0 65_536 []) ≡ more)
+    × (readingPacket message (limited Archive 43 65_536 []) ≡ refuse 8 (44 ∷ 43 ∷ []))
+    × (readingPacket (bare 2) (limited Archive 0 65_536 []) ≡ accepted 36 (2 ∷ 0 ∷ 1 ∷ 2 ∷ 3 ∷ 4 ∷ 0 ∷ []))
+    × (readingPacket (bare 2) (limited Live 0 65_536 []) ≡ refuse 24 (2 ∷ []))
+    × (readingPacket (bare 258) (limited Live 0 65_536 []) ≡ refuse 2 (258 ∷ []))

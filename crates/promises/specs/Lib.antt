@@ -5,6 +5,7 @@ pub mod BitRuns
 pub mod Damage
 pub mod Parts
 pub mod RoundTrip
+pub mod Live
 pub mod RowsetWriter
 pub mod RowsetReader
 pub mod Rowsets

@@ -111,7 +111,7 @@ pub(crate) fn kept_bytes(buffer: &[u8], from: usize) {
 fn carried(refusal: u64) -> u64 {
     match refusal {
         16 => 0,
-        1..=3 | 10 | 12..=15 => 1,
+        1..=3 | 10 | 12..=15 | 24 => 1,
         4..=6 | 8..=9 | 11 | 18 => 2,
         _ => 3,
     }
