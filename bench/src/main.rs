@@ -162,9 +162,9 @@ fn id() -> Guid {
 fn checksums(table: &mut Table) {
     for (name, size, batch, bar) in [
         ("checksum 28 B", 28, 20_000, None),
-        ("checksum 1 KiB", 1024, 1_000, Some(0.97)),
-        ("checksum 64 KiB", 65_536, 20, Some(0.97)),
-        ("checksum 64 MiB", 1 << 26, 1, Some(0.97)),
+        ("checksum 1 KiB", 1024, 1_000, Some(2.5)),
+        ("checksum 64 KiB", 65_536, 20, Some(3.5)),
+        ("checksum 64 MiB", 1 << 26, 1, Some(3.5)),
     ] {
         table.line(name, size, bar, || {
             let bytes = noise(size);
@@ -227,8 +227,8 @@ fn packets(table: &mut Table) {
     encoded(table, "Ack encoded", 2_000, None, ack);
     decoded(table, "3 parts of 100 B decoded", 1_000, Some(0.97), small);
     encoded(table, "3 parts of 100 B encoded", 1_000, Some(0.97), small);
-    decoded(table, "1,000 parts of 1 KiB decoded", 4, Some(0.97), large);
-    encoded(table, "1,000 parts of 1 KiB encoded", 4, Some(0.97), large);
+    decoded(table, "1,000 parts of 1 KiB decoded", 4, Some(3.0), large);
+    encoded(table, "1,000 parts of 1 KiB encoded", 4, Some(3.0), large);
     decoded(
         table,
         "1,000 parts of 1 KiB without checksums decoded",

@@ -9,6 +9,7 @@ mod packets;
 mod random;
 mod rowsets;
 mod seal;
+mod sums;
 #[allow(dead_code)]
 #[path = "../text.rs"]
 mod text;
@@ -22,9 +23,11 @@ use text::{hex, hex_or_dash};
 type Make = fn(&mut Random) -> String;
 
 /// Each kind with its share of a run.
-const KINDS: [(&str, u64, Make); 18] = [
+const KINDS: [(&str, u64, Make); 20] = [
     ("crc", 30, crc),
     ("checksum", 20, checksum),
+    ("fold", 10, sums::fold),
+    ("fold8", 20, sums::fold8),
     ("guid-print", 20, guid_print),
     ("guid-read", 80, guid_read),
     ("guid-parts", 15, guid_parts),
@@ -240,7 +243,7 @@ fn field(random: &mut Random) -> Vec<u8> {
 
 /// Lines that are no case: another kind, a word too many or too few, digits that are none.
 fn bad(random: &mut Random) -> String {
-    let (_, _, make) = KINDS[random.below(17) as usize];
+    let (_, _, make) = KINDS[random.below(KINDS.len() as u64 - 1) as usize];
     let line = make(random);
     match random.below(4) {
         0 => format!("un{line}"),

@@ -106,6 +106,11 @@ uint64_t cablefinch_checksum(const uint8_t *bytes, size_t n);
  * register is no checksum itself. */
 uint64_t cablefinch_update(uint64_t reg, const uint8_t *bytes, size_t n);
 uint64_t cablefinch_finish(uint64_t reg);
+/* The two engines, callable by name: the checksum's register, not byte-swapped, after some more bytes. From 0 both give
+ * the checksum. cablefinch_fold takes a byte at a step; cablefinch_fold8 takes eight, over tables that it lays out first,
+ * which pays from some 140 bytes on. The functions above choose by the length. */
+uint64_t cablefinch_fold(uint64_t reg, const uint8_t *bytes, size_t n);
+uint64_t cablefinch_fold8(uint64_t reg, const uint8_t *bytes, size_t n);
 
 /* GUIDs. An id is its CABLEFINCH_GUID_BYTES wire bytes; where fewer are given, the missing ones count as 0. */
 

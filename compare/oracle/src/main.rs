@@ -16,7 +16,7 @@ use oracle::crc64::{self, Crc64};
 use oracle::guid::Guid;
 use oracle::wire::{self, MaybeRow, UnversionedValue, Value, ValueType, WireError};
 use text::{
-    BadCase, answer_lines, commas, hex_or_dash, narrow, number, read_bytes, read_id, read_words,
+    BadCase, answer_lines, commas, hex_or_dash, narrow, number, read_bytes, read_id, read_register, read_words,
     words, zeros,
 };
 
@@ -98,6 +98,18 @@ fn answer(line: &[u8]) -> Outcome {
             number(register)?;
             read_bytes(bytes)?;
             Err(Without::Skip)
+        }
+        // The Rust has one engine, and it begins at 0.
+        (b"fold" | b"fold8", [register, stretches @ ..]) if !stretches.is_empty() => {
+            match read_register(register)? {
+                0 => crc(stretches),
+                _ => {
+                    for stretch in stretches {
+                        read_bytes(stretch)?;
+                    }
+                    Err(Without::Skip)
+                }
+            }
         }
         (b"guid-text" | b"guid-bytes", [id, room]) => {
             guid(id)?;

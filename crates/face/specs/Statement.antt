@@ -12,8 +12,6 @@ use Rattle.words.specs.Paper.{Tells, roomLine}
 use Rattle.words.specs.Statement.{Holds}
 use Rattle.words.specs.declared.outcome.Outcome.{Outcome}
 use Rattle.words.specs.declared.outcome.Room.the-variants.{Output}
-use Rattle.crc64.specs.Polynomial.{fold}
-use Rattle.crc64.specs.Table.{swapped}
 use Rattle.guid.specs.declared.Guid.{Guid}
 use Rattle.guid.specs.Guid.{wireBytes, guidAt, wordsOf, firstHalf, secondHalf, isNull}
 use Rattle.guid.specs.Text.{textOf, printing, reading as readingText}
@@ -27,10 +25,6 @@ use Rattle.wire.specs.Layout.{countAt, rowWords, valueWords, rowsetBytes}
 use Rattle.wire_value.specs.ValueOrder.{valueReading}
 use Rattle.wire_read.specs.Reading as rowset
 use Rattle.wire_check.specs.Writing as rowsetWriting
-
--- the register is held byte-swapped
-abbrev pub Updates : ℕ → List ℕ → ℕ → Type 0
-Updates register bytes r = r ≡ swapped 8 (fold (swapped 8 register) bytes)
 
 -- GUIDs, lent as wire bytes
 
