@@ -27,6 +27,7 @@ int main(void) {
     expect("finish", cablefinch_finish(0) == 0);
     expect("fold", cablefinch_fold(7, NULL, 0) == 7);
     expect("fold8", cablefinch_fold8(7, NULL, 0) == 7);
+    expect("combine", cablefinch_combine(7, 0, 0) == 7);
     cablefinch_guid_from_parts(&o, 1, 2, 3, 4, NULL, 0);
     IS(guid_from_parts, CABLEFINCH_REFUSED, CABLEFINCH_NO_ROOM);
     cablefinch_guid_from_halves(&o, 1, 2, NULL, 0);

@@ -176,6 +176,29 @@ fn checksums(table: &mut Table) {
             }
         });
     }
+    // The Rust has no such operation: its checksum of 4 KiB stands beside it.
+    let bytes = noise(4096);
+    for (name, length) in [
+        ("combine over 64 KiB, beside a checksum of 4 KiB", 1 << 16),
+        (
+            "combine over 2^64 - 1 bytes, beside a checksum of 4 KiB",
+            u64::MAX,
+        ),
+    ] {
+        table.line(name, 0, Some(1.0), || Times {
+            rust: time(1_000, || (), |()| oracle::crc64::checksum(&bytes)),
+            port: time(
+                1_000,
+                || (),
+                |()| face::combine(black_box(1), 2, black_box(length)),
+            ),
+            wrapped: time(
+                1_000,
+                || (),
+                |()| cablefinch::crc64::combine(black_box(1), 2, black_box(length)),
+            ),
+        });
+    }
 }
 
 /// A packet, its bytes, the table of its parts over an area that holds them one after another.

@@ -15,6 +15,7 @@ pub fn list() -> Vec<String> {
     guid_rooms(&mut lines);
     registers(&mut lines);
     sums::lengths(&mut lines);
+    sums::powers(&mut lines);
     caps(&mut lines);
     large_reads(&mut lines);
     lengths(&mut lines);

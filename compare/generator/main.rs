@@ -23,11 +23,12 @@ use text::{hex, hex_or_dash};
 type Make = fn(&mut Random) -> String;
 
 /// Each kind with its share of a run.
-const KINDS: [(&str, u64, Make); 20] = [
+const KINDS: [(&str, u64, Make); 21] = [
     ("crc", 30, crc),
     ("checksum", 20, checksum),
     ("fold", 10, sums::fold),
     ("fold8", 20, sums::fold8),
+    ("combine", 15, sums::combine),
     ("guid-print", 20, guid_print),
     ("guid-read", 80, guid_read),
     ("guid-parts", 15, guid_parts),

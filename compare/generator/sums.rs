@@ -1,4 +1,5 @@
-//! Cases of the checksum beyond one stretch from nothing: both engines from any register.
+//! Cases of the checksum beyond one stretch from nothing: both engines from any register, and the
+//! checksum of two stretches from theirs.
 
 use crate::random::Random;
 use crate::text::hex_or_dash;
@@ -38,4 +39,29 @@ pub fn lengths(lines: &mut Vec<String>) {
             }
         }
     }
+}
+
+pub fn combine(random: &mut Random) -> String {
+    let length = match random.below(3) {
+        0 => random.small(5000),
+        _ => random.word(),
+    };
+    combined(random.word(), random.word(), length)
+}
+
+fn combined(first: u64, second: u64, length: u64) -> String {
+    format!("combine {first:016x} {second:016x} {length}")
+}
+
+/// Two checksums combined over lengths around each power of two.
+pub fn powers(lines: &mut Vec<String>) {
+    let mut random = Random::new(8);
+    for bit in 0..64 {
+        let power = 1u64 << bit;
+        for length in [power - 1, power, power + 1, power.wrapping_neg()] {
+            lines.push(combined(1, 0, length));
+            lines.push(combined(random.next(), random.next(), length));
+        }
+    }
+    lines.push(combined(u64::MAX, 0x0123_4567_89ab_cdef, u64::MAX));
 }

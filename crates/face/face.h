@@ -111,6 +111,8 @@ uint64_t cablefinch_finish(uint64_t reg);
  * which pays from some 140 bytes on. The functions above choose by the length. */
 uint64_t cablefinch_fold(uint64_t reg, const uint8_t *bytes, size_t n);
 uint64_t cablefinch_fold8(uint64_t reg, const uint8_t *bytes, size_t n);
+/* The checksum of two stretches joined, from their checksums and the second one's length in bytes. */
+uint64_t cablefinch_combine(uint64_t first, uint64_t second, uint64_t length);
 
 /* GUIDs. An id is its CABLEFINCH_GUID_BYTES wire bytes; where fewer are given, the missing ones count as 0. */
 

@@ -20,6 +20,21 @@ pub fn fold8(register: u64, bytes: &[u8]) -> u64 {
     sys::fold8(register, bytes)
 }
 
+/// The checksum of two stretches joined, from their checksums and the second one's length in bytes,
+/// without the bytes: the time does not grow with the length, but for its bits.
+///
+/// ```
+/// use cablefinch::crc64::{checksum, combine};
+/// let (front, back) = (b"stored ", b"in two halves");
+/// assert_eq!(
+///     combine(checksum(front), checksum(back), back.len() as u64),
+///     checksum(b"stored in two halves")
+/// );
+/// ```
+pub fn combine(first: u64, second: u64, length: u64) -> u64 {
+    sys::combine(first, second, length)
+}
+
 /// A checksum over stretches that do not lie together.
 #[derive(Debug, Clone, Copy, PartialEq, Eq, Hash, Default)]
 pub struct Crc64 {
@@ -43,6 +58,11 @@ impl Crc64 {
     pub fn chain(mut self, bytes: &[u8]) -> Self {
         self.update(bytes);
         self
+    }
+
+    /// Appends a stretch of which the checksum and the length in bytes are known, without its bytes.
+    pub fn append(&mut self, checksum: u64, length: u64) {
+        self.register = sys::finish(combine(self.finish(), checksum, length));
     }
 
     /// The checksum of all that was folded in.
@@ -84,6 +104,24 @@ mod tests {
         assert_eq!(fold8(register, &bytes[..8]), 0xe718_8b61_064a_10a4);
         assert_eq!(fold8(register, &bytes), 0xa365_5f4f_cd73_2a5c);
         assert_eq!(fold8(register, &register.to_be_bytes()), 0);
+    }
+
+    #[test]
+    fn combined_and_appended_as_joined() {
+        let bytes: Vec<u8> = (0..=255).collect();
+        for cut in 0..=bytes.len() {
+            let (front, back) = bytes.split_at(cut);
+            let length = back.len() as u64;
+            let whole = combine(checksum(front), checksum(back), length);
+            assert_eq!(whole, checksum(&bytes));
+            let mut sum = Crc64::new().chain(front);
+            sum.append(checksum(back), length);
+            assert_eq!(sum.finish(), whole);
+        }
+        assert_eq!(combine(1, 0, 0), 1);
+        assert_eq!(combine(1, 0, 8), 0xe543_2797_6592_7881);
+        assert_eq!(combine(1, 0, 1 << 61), 2);
+        assert_eq!(combine(1, 0, u64::MAX), 1);
     }
 
     #[test]

@@ -44,6 +44,11 @@ fn answer(line: &[u8]) -> Answer {
         (b"fold8", [register, stretches @ ..]) if !stretches.is_empty() => {
             folded(face::fold8, read_register(register)?, stretches)
         }
+        (b"combine", [first, second, length]) => {
+            let (first, second) = (read_register(first)?, read_register(second)?);
+            let whole = face::combine(first, second, number(length)?);
+            Ok(format!("ok {whole:016x}"))
+        }
         (b"guid-print", [id]) => guid_print(&read_id(id)?),
         (b"guid-text", [id, room]) => guid_text(&read_id(id)?, number(room)?),
         (b"guid-bytes", [id, room]) => guid_bytes(&read_id(id)?, number(room)?),

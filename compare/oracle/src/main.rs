@@ -16,8 +16,8 @@ use oracle::crc64::{self, Crc64};
 use oracle::guid::Guid;
 use oracle::wire::{self, MaybeRow, UnversionedValue, Value, ValueType, WireError};
 use text::{
-    BadCase, answer_lines, commas, hex_or_dash, narrow, number, read_bytes, read_id, read_register, read_words,
-    words, zeros,
+    BadCase, answer_lines, commas, hex_or_dash, narrow, number, read_bytes, read_id, read_register,
+    read_words, words, zeros,
 };
 
 const NULL: u64 = u64::MAX;
@@ -110,6 +110,12 @@ fn answer(line: &[u8]) -> Outcome {
                     Err(Without::Skip)
                 }
             }
+        }
+        (b"combine", [first, second, length]) => {
+            read_register(first)?;
+            read_register(second)?;
+            number(length)?;
+            Err(Without::Skip)
         }
         (b"guid-text" | b"guid-bytes", [id, room]) => {
             guid(id)?;

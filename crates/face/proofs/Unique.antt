@@ -6,6 +6,7 @@ use mathlib.Core.List.{List}
 use Rattle.words.specs.Statement.{OneResult}
 use Rattle.words.proofs.Unique.{equal-to-one}
 use Rattle.crc64.specs.Statement.{ChecksumIs, FoldIs, SwapIs}
+use Rattle.crc64_combine.specs.Statement.{CombineIs}
 use Rattle.crc64_eight.specs.Statement.{Fold8Is}
 use Rattle.checksum.specs.Statement.{UpdatedIs}
 use Rattle.packet.specs.Statement.{PartChecksumIs}
@@ -36,6 +37,9 @@ cablefinch-fold-unique register bytes = equal-to-one _
 
 pub cablefinch-fold8-unique : (register : ℕ) (bytes : List ℕ) → OneResult (Fold8Is register bytes)
 cablefinch-fold8-unique register bytes = equal-to-one _
+
+pub cablefinch-combine-unique : (first second length : ℕ) → OneResult (CombineIs first second length)
+cablefinch-combine-unique first second length = equal-to-one _
 
 pub cablefinch-guid-from-parts-unique : (w0 w1 w2 w3 : ℕ) (before : List ℕ) → OneResult (λ (x : Outcome × List ℕ). WritesId (guidOf w0 w1 w2 w3) before (x .0) (x .1))
 cablefinch-guid-from-parts-unique w0 w1 w2 w3 before = equal-to-two _ _

@@ -1,5 +1,6 @@
-// The checksum, of one stretch of bytes or of several, by either engine.
+// The checksum, of one stretch of bytes or of several, by either engine, and of stretches whose checksums are known.
 ghost use Rattle.crc64.specs.Statement.{ChecksumIs, FoldIs, SwapIs};
+ghost use Rattle.crc64_combine.specs.Statement.{CombineIs};
 ghost use Rattle.crc64_eight.specs.Statement.{Fold8Is};
 ghost use Rattle.checksum.specs.Statement.{UpdatedIs};
 
@@ -41,4 +42,12 @@ pub extern "C" fn cablefinch_fold8(register: u64, bytes: &[u8]) -> u64
     ensures { λ r. ⌜ Fold8Is register (now (bytes .entry)) r ⌝ }
 {
     crc64_eight::fold8(register, bytes)
+}
+
+// The checksum of two stretches joined, from theirs and the second one's length.
+#[no_mangle]
+pub extern "C" fn cablefinch_combine(first: u64, second: u64, length: u64) -> u64
+    ensures { λ r. ⌜ CombineIs first second length r ⌝ }
+{
+    crc64_combine::combine(first, second, length)
 }
