@@ -4,6 +4,7 @@
 //! of `edges` too. Assumes nothing of either side that answers.
 
 mod corners;
+mod damaged;
 mod edges;
 mod packets;
 mod random;
@@ -65,6 +66,8 @@ fn main() {
         Some("drawn") => drawn(seed, count, &mut output),
         Some("examples") => fixed(edges::examples(), count, &mut output),
         Some("edges") => fixed(edges::list(), count, &mut output),
+        Some("damaged") => one_kind(seed, count, damaged::case, &mut output),
+        Some("named") => one_kind(seed, count, damaged::named, &mut output),
         Some("corners") => fixed(corners::list(), count, &mut output),
         Some("huge") => edges::huge(count, &mut output),
         Some(kind) => match KINDS.iter().find(|entry| entry.0 == kind) {
@@ -83,7 +86,7 @@ fn main() {
 fn usage() -> ! {
     let kinds: Vec<&str> = KINDS.iter().map(|entry| entry.0).collect();
     eprintln!(
-        "usage: cases SEED COUNT [KIND], where KIND is examples, edges, corners, drawn, huge or one of"
+        "usage: cases SEED COUNT [KIND], where KIND is examples, edges, corners, drawn, huge, damaged, named or one of"
     );
     eprintln!("  {}", kinds.join(" "));
     exit(2);
