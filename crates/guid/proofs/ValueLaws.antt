@@ -12,7 +12,9 @@ use Rattle.words.specs.Decide.{pick}
 use Rattle.words.specs.Text.{digit, spelled, digitOf}
 use Rattle.numerals.specs.Statement.{hex}
 use Rattle.guid.specs.Digits.{Digits, value}
+use Rattle.guid.specs.Fields.{dash}
 use Rattle.guid.specs.Normal.{lower, shorn}
+use Rattle.guid.specs.WithPlus.{plus}
 use Rattle.numerals.proofs.Cases.{lt-or-le, same-or-other}
 use Rattle.numerals.proofs.SpelledLaws.{spelled-none, spelled-one, spelled-more}
 
@@ -88,12 +90,12 @@ digit-value b (capital l h e) = rw (e, le-ltb (b - 55) 10 (omega arith), le-ltb 
 digit-value b (letter l h e) = rw (e, le-ltb (b - 87) 10 (omega arith), le-ltb b 65 (omega arith), le-ltb b 71 (omega arith)) (omega arith)
 
 -- it is neither dash nor plus
-pub no-dash : (b : ℕ) → DigitByte b → (b ≡ 45 → ⊥)
+pub no-dash : (b : ℕ) → DigitByte b → (b ≡ dash → ⊥)
 no-dash b (number l h e) is = omega arith
 no-dash b (capital l h e) is = omega arith
 no-dash b (letter l h e) is = omega arith
 
-pub no-plus : (b : ℕ) → DigitByte b → (b ≡ 43 → ⊥)
+pub no-plus : (b : ℕ) → DigitByte b → (b ≡ plus → ⊥)
 no-plus b (number l h e) is = omega arith
 no-plus b (capital l h e) is = omega arith
 no-plus b (letter l h e) is = omega arith
@@ -108,7 +110,7 @@ pub digits-append : (ds es : List ℕ) → Digits ds → Digits es → Digits (d
 digits-append [] es p q = q
 digits-append (b ∷ ds) es p q = (p .0, digits-append ds es (p .1) q)
 
-value-append : (n : ℕ) (ds : List ℕ) (b : ℕ) → value n (ds ++ b ∷ []) ≡ value n ds * 16 + digitOf b
+pub value-append : (n : ℕ) (ds : List ℕ) (b : ℕ) → value n (ds ++ b ∷ []) ≡ value n ds * 16 + digitOf b
 unfolding value
 value-append n [] b = refl
 value-append n (d ∷ ds) b = value-append (n * 16 + digitOf d) ds b

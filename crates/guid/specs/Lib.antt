@@ -1,9 +1,12 @@
--- What a GUID is, as bytes, words, halves and text, after document 01, and what the crate's functions promise.
+-- What a GUID is, as bytes, words, halves and text, where a text goes wrong and why, and what the functions promise.
 pub mod Guid
+pub mod Fields
 pub mod Text
 pub mod Digits
 pub mod Form
+pub mod Reason
 pub mod Normal
 pub mod Paper
 pub mod Statement
+pub mod WithPlus
 pub mod Stages

@@ -1,8 +1,10 @@
--- What the private stages of reading hand on. Nobody has to believe it: contracts of private functions cite it. Assumes nothing.
-use Rattle.guid.specs.declared.hex.Field.{Field as Found}
-use Rattle.guid.specs.declared.hex.Field.the-variants.{Word, Stopped}
-use Rattle.guid.specs.Text.{Field, word, stopped}
+-- What the private stages of printing write. Nobody has to believe it: contracts of private functions cite it.
+-- Assumes nothing.
+use Prim.Native.Nat.{ℕ}
+use mathlib.Core.List.{List, [], _∷_, _++_}
+use Rattle.numerals.specs.Statement.{hex}
+use Rattle.guid.specs.Fields.{dash}
 
-abbrev pub fieldOf : Found → Field
-fieldOf (Word n end) = word n end
-fieldOf (Stopped place) = stopped place
+-- a field with its dash behind it
+abbrev pub dashed : ℕ → List ℕ
+dashed w = hex w ++ dash ∷ []

@@ -1,12 +1,14 @@
-// YTsaurus GUIDs after guid.rs: sixteen wire bytes, four little-endian words, two halves, and one text, the words printed backwards.
-// A GUID is held as its four words, so that the enum of an answer can carry it; the wire bytes are read and written at the border.
+// YTsaurus GUIDs after guid.rs: sixteen wire bytes, four little-endian words, two halves, and one text, the words
+// printed backwards. A GUID is held as its four words, so that the enum of an answer can carry it; the wire bytes are
+// read and written at the border.
+ghost use mathlib.Core.Path.{_≡_};
 ghost use Rattle.words.specs.Statement.{Leaves};
 ghost use Rattle.words.specs.Answer.{accepted};
 ghost use Rattle.words.specs.Paper.{Tells};
 ghost use Rattle.guid.specs.Guid.{wireBytes, wordsOf};
-ghost use Rattle.guid.specs.Paper.{printedPaper, parsedPaper};
+ghost use Rattle.guid.specs.Paper.{printedPaper, parsedPaper, reasonNumber};
 ghost use Rattle.guid.specs.Statement.{MadeOfParts, GivesParts, MadeOfHalves, GivesHalves, TellsNull, ReadsBytes, SizesText, Prints, Parses};
-use hex::Field;
+use numerals::digit_value;
 use numerals::hex_size;
 use words::outcome::ACCEPTED;
 use words::outcome::NoRoom;
@@ -40,10 +42,19 @@ pub enum Printed {
     Refused(NoRoom),
 }
 
-// What `parse` answers: the GUID, or document 01's 16.
+// Why a text is refused: a field has no byte, a field has more than eight, a byte is no hex digit, or the fields are
+// not four.
+pub enum Reason {
+    Empty,
+    TooLong,
+    NotHex,
+    FieldCount,
+}
+
+// What `parse` answers: the GUID, or 16 with the place where the text goes wrong and why.
 pub enum Parsed {
     Read(Guid),
-    Bad,
+    Bad { position: usize, reason: Reason },
 }
 
 impl Guid {
@@ -158,35 +169,73 @@ impl Guid {
         Printed::Written(needed)
     }
 
-    // A text of four fields between dashes: Rust's `from_str`.
+    // The GUID that a text of four fields between dashes spells, or where the text goes wrong and why: Rust's
+    // `from_str`, without its plus. `left` dashes are still to come, and this field began at `start`.
     pub fn parse(text: &[u8]) -> Parsed
         ensures { λ r. ⌜ Parses (now (text .entry)) r ⌝ }
     {
-        let Field::Word(w3, end3) = hex::read_field(text, 0) else {
-            return Parsed::Bad;
-        };
-        if text.len() <= end3 {
-            return Parsed::Bad;
+        let mut w0: u32 = 0;
+        let mut w1: u32 = 0;
+        let mut w2: u32 = 0;
+        let mut w3: u32 = 0;
+        let mut left: u32 = 3;
+        let mut start: usize = 0;
+        let mut at: usize = 0;
+        while at < text.len() {
+            let byte = text[at];
+            let count = at - start;
+            if byte == b'-' {
+                if count == 0 {
+                    return bad(at, Reason::Empty);
+                }
+                if left == 0 {
+                    return bad(at, Reason::FieldCount);
+                }
+                w3 = w2;
+                w2 = w1;
+                w1 = w0;
+                w0 = 0;
+                left -= 1;
+                at += 1;
+                start = at;
+                continue;
+            }
+            let value = digit_value(byte);
+            if 7 < count {
+                return bad(at, Reason::TooLong);
+            }
+            if 15 < value {
+                return bad(at, Reason::NotHex);
+            }
+            w0 = w0 * 16 + value;
+            at += 1;
         }
-        let Field::Word(w2, end2) = hex::read_field(text, end3 + 1) else {
-            return Parsed::Bad;
-        };
-        if text.len() <= end2 {
-            return Parsed::Bad;
+        if at == start {
+            return bad(at, Reason::Empty);
         }
-        let Field::Word(w1, end1) = hex::read_field(text, end2 + 1) else {
-            return Parsed::Bad;
-        };
-        if text.len() <= end1 {
-            return Parsed::Bad;
-        }
-        let Field::Word(w0, end0) = hex::read_field(text, end1 + 1) else {
-            return Parsed::Bad;
-        };
-        if end0 < text.len() {
-            return Parsed::Bad;
+        if 0 < left {
+            return bad(at, Reason::FieldCount);
         }
         Parsed::Read(Guid { w0, w1, w2, w3 })
+    }
+}
+
+// 16: the text goes wrong at this place, and why.
+fn bad(position: usize, reason: Reason) -> Parsed
+    ensures { λ r. ⌜ r ≡ Parsed.Bad position reason ⌝ }
+{
+    Parsed::Bad { position, reason }
+}
+
+// The number of a reason, in the order of document 02's sentence.
+fn reason_number(reason: Reason) -> u64
+    ensures { λ r. ⌜ r ≡ reasonNumber reason ⌝ }
+{
+    match reason {
+        Reason::Empty => 1,
+        Reason::TooLong => 2,
+        Reason::NotHex => 3,
+        Reason::FieldCount => 4,
     }
 }
 
@@ -223,7 +272,13 @@ pub fn parsed_outcome(answer: Parsed) -> Outcome
     ensures { λ r. ⌜ Tells (parsedPaper answer) r ⌝ }
 {
     match answer {
-        Parsed::Bad => refusal(16, 0, 0, 0, 0),
+        Parsed::Bad { position, reason } => refusal(
+            16,
+            0,
+            position as u64,
+            reason_number(reason),
+            0,
+        ),
         Parsed::Read(id) => words_outcome(id),
     }
 }

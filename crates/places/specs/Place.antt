@@ -1,6 +1,6 @@
--- Where a text goes wrong, for any set of accepted texts. Document 02, A5: "The position is that of the first byte at which
--- no continuation could be accepted, or the text's length when it merely ends too soon." A1 says the same in other words.
--- Assumes nothing.
+-- Where a text goes wrong, for any set of accepted texts. Document 02, A5: "The position is that of the first byte at
+-- which no continuation could be accepted, or the text's length when it merely ends too soon." A1 says the same in
+-- other words. Assumes nothing.
 use Prim.Native.Nat.{ℕ, suc}
 use mathlib.Core.List.{List, _++_}
 use mathlib.Core.Logic.{_⊎_}

@@ -1,155 +1,171 @@
--- `Guid::parse` meets its contract: field by field, the walk goes on or the text is bad.
+-- `Guid::parse` meets its contract: what the machine finds from here on is what it finds in the whole text.
 -- Assumes nothing.
-use mathlib.Core.Path.{_≡_, sym, _∙_, ap}
-use mathlib.Core.List.{[], _∷_}
-use Prim.Native.Nat.{_+_}
-use Rattle.guid.specs.Text.{walk, reading}
-use Rattle.guid.specs.Stages.{fieldOf}
-use Rattle.guid.proofs.FieldLaws.{walk-stopped, walk-short, walk-on, walk-long, walk-end}
+use mathlib.Core.Path.{_≡_, refl, sym, _∙_}
+use Prim.Native.Nat.{_+_, _-_, _^_, _<_, _≤_}
+use native.Mathlib.Omega.{arith}
+use lib.ListN.{length, drop}
+use Rattle.places.specs.Machine.{run}
+use Rattle.places.proofs.MachineLaws.{loop-on, loop-off, loop-read, loop-early}
+use Rattle.guid.specs.declared.Reason.the-variants.{Empty, TooLong, NotHex, FieldCount}
+use Rattle.guid.specs.declared.Parsed.the-variants.{Read, Bad}
+use Rattle.guid.specs.Guid.{guidOf}
+use Rattle.guid.proofs.Walk.{State, st, start, walk}
+use Rattle.guid.proofs.WalkLaws.{word-more, word-fits, dash-empty, dash-many, dash-at, other-long, other-wrong, other-next, end-empty, end-few, end-read, word-none, apart}
+use Rattle.guid.proofs.ReasonLaws.{endingOf, parses}
 use borrow.Author.Needs.{needs}
 use Rattle.guid.proofs.Guid.parse.Statement.{statement}
 use Rattle.guid.proofs.Guid.parse.Tie as tie
 
--- a field has been read and ended at a dash: what is left of the walk
-on1 : (c : tie.Else1) → reading (c .before .before .before .before .before .before .args .text .now) ≡ walk 2 (c .before .before .before .before .before .before .args .text .now) (c .before .before .w3 .given .0 .1 .0 + 1) (c .before .before .w3 .given .0 .0 ∷ [])
-on1 c =
-    let f = c .before .before .w3 .given in
-    walk-on _ _ (f .0 .0) (f .0 .1 .0) _ (sym (c .before .before .before .before .read-field .ensures) ∙ ap fieldOf (f .1)) 2 (c .if1 .left)
+abbrev Inv-loop : tie.InvT-loop
+Inv-loop text w0₀ w1₀ w2₀ w3₀ left₀ from₀ at₀ w0 w1 w2 w3 left from at =
+    (left ≤ 3) × (from ≤ at) × (at - from ≤ 8) × (w0 < 16 ^ (at - from)) × (run walk (st left (at - from) w0 w1 w2 w3) at (drop at text) ≡ run walk start 0 text)
 
-on2 : (c : tie.Else2) → reading (c .before .before .before .before .before .before .before .before .before .before .before .args .text .now) ≡ walk 1 (c .before .before .before .before .before .before .before .before .before .before .before .args .text .now) (c .before .before .w2 .given .0 .1 .0 + 1) (c .before .before .w2 .given .0 .0 ∷ c .before .before .before .before .before .before .before .w3 .given .0 .0 ∷ [])
-on2 c =
-    let f = c .before .before .w2 .given in
-    on1 (c .before .before .before .before .before)
-    ∙ walk-on _ _ (f .0 .0) (f .0 .1 .0) _ (sym (c .before .before .before .before .read-field2 .ensures) ∙ ap fieldOf (f .1)) 1 (c .if2 .left)
+abbrev μ-loop : tie.MeasureT-loop
+μ-loop text w0₀ w1₀ w2₀ w3₀ left₀ from₀ at₀ w0 w1 w2 w3 left from at = length text - at
 
-on3 : (c : tie.Else3) → reading (c .before .before .before .before .before .before .before .before .before .before .before .before .before .before .before .before .args .text .now) ≡ walk 0 (c .before .before .before .before .before .before .before .before .before .before .before .before .before .before .before .before .args .text .now) (c .before .before .w1 .given .0 .1 .0 + 1) (c .before .before .w1 .given .0 .0 ∷ c .before .before .before .before .before .before .before .w2 .given .0 .0 ∷ c .before .before .before .before .before .before .before .before .before .before .before .before .w3 .given .0 .0 ∷ [])
-on3 c =
-    let f = c .before .before .w1 .given in
-    on2 (c .before .before .before .before .before)
-    ∙ walk-on _ _ (f .0 .0) (f .0 .1 .0) _ (sym (c .before .before .before .before .read-field3 .ensures) ∙ ap fieldOf (f .1)) 0 (c .if3 .left)
+loop-holds : tie.Need-loop-holds Inv-loop μ-loop
+loop-holds c = (omega arith, omega arith, omega arith, omega arith, refl)
 
-read-field-requires : tie.Need-read-field-requires
-read-field-requires c κs = search needs
+shared-slice-read-byte : tie.Need-shared-slice-read-byte Inv-loop μ-loop
+shared-slice-read-byte c = omega arith
 
-enum-known-w3 : tie.Need-enum-known-w3
-enum-known-w3 c = search needs
+sub-count : tie.Need-sub-count Inv-loop μ-loop
+sub-count c = omega arith
 
-enum-told : tie.Need-enum-told
-enum-told c = search needs
+bad-requires : tie.Need-bad-requires Inv-loop μ-loop
+bad-requires c κs = search needs
 
-returns : tie.Need-returns
+returns : tie.Need-returns Inv-loop μ-loop
 returns c =
-    let f = c .enum-told .given in
-    sym (walk-stopped _ _ 3 (f .0 .0) _ (sym (c .before .before .read-field .ensures) ∙ ap fieldOf (f .1)))
+    let l = c .before .before .before .before .before .loop in
+    let q = st (l .left) (l .at - l .start) (l .w0) (l .w1) (l .w2) (l .w3) in
+    rw (c .bad .ensures) (parses _ (Bad (l .at) Empty) (sym (l .inv .4) ∙ loop-off walk q _ (l .at) Empty (c .before .before .before .before .loop-test .taken) (dash-empty q _ (c .before .before .if1 .taken) (c .before .if2 .taken))))
 
-returns-2 : tie.Need-returns-2
+bad-requires-2 : tie.Need-bad-requires-2 Inv-loop μ-loop
+bad-requires-2 c κs = search needs
+
+returns-2 : tie.Need-returns-2 Inv-loop μ-loop
 returns-2 c =
-    let f = c .before .before .w3 .given in
-    sym (walk-short _ _ (f .0 .0) (f .0 .1 .0) _ (sym (c .before .before .before .before .read-field .ensures) ∙ ap fieldOf (f .1)) 2 (c .if1 .taken))
+    let l = c .before .before .before .before .before .before .loop in
+    let q = st (l .left) (l .at - l .start) (l .w0) (l .w1) (l .w2) (l .w3) in
+    rw (c .bad2 .ensures) (parses _ (Bad (l .at) FieldCount) (sym (l .inv .4) ∙ loop-off walk q _ (l .at) FieldCount (c .before .before .before .before .before .loop-test .taken) (dash-many q _ (c .before .before .before .if1 .taken) (omega (arith, c .before .before .if2 .left)) (c .before .if3 .taken))))
 
-add-read-field : tie.Need-add-read-field
-add-read-field c = search needs
+sub-left : tie.Need-sub-left Inv-loop μ-loop
+sub-left c = omega arith
 
-read-field-requires-2 : tie.Need-read-field-requires-2
-read-field-requires-2 c κs = search needs
+add-at : tie.Need-add-at Inv-loop μ-loop
+add-at c = omega arith
 
-enum-known-w2 : tie.Need-enum-known-w2
-enum-known-w2 c = search needs
+loop-less : tie.Need-loop-less Inv-loop μ-loop
+loop-less c = omega arith
 
-enum-told-2 : tie.Need-enum-told-2
-enum-told-2 c = search needs
+loop-again : tie.Need-loop-again Inv-loop μ-loop
+loop-again c =
+    let l = c .before .before .before .before .before .loop in
+    let q = st (l .left) (l .at - l .start) (l .w0) (l .w1) (l .w2) (l .w3) in
+    let step = dash-at q _ (l .at + 1) (c .before .before .if1 .taken) (omega (arith, c .before .if2 .left)) (omega (arith, c .if3 .left)) in
+    (omega (arith, l .inv .0), omega arith, omega arith, word-none (l .at + 1), sym (loop-on walk q _ _ (l .at) (c .before .before .before .before .loop-test .taken) step) ∙ l .inv .4)
 
-returns-3 : tie.Need-returns-3
+digit-value-requires : tie.Need-digit-value-requires Inv-loop μ-loop
+digit-value-requires c κs = search needs
+
+bad-requires-3 : tie.Need-bad-requires-3 Inv-loop μ-loop
+bad-requires-3 c κs = search needs
+
+returns-3 : tie.Need-returns-3 Inv-loop μ-loop
 returns-3 c =
-    let f = c .enum-told2 .given in
-    sym (on1 (c .before .before .before)
-    ∙ walk-stopped _ _ 2 (f .0 .0) _ (sym (c .before .before .read-field2 .ensures) ∙ ap fieldOf (f .1)))
+    let l = c .before .before .before .before .before .before .loop in
+    let q = st (l .left) (l .at - l .start) (l .w0) (l .w1) (l .w2) (l .w3) in
+    rw (c .bad3 .ensures) (parses _ (Bad (l .at) TooLong) (sym (l .inv .4) ∙ loop-off walk q _ (l .at) TooLong (c .before .before .before .before .before .loop-test .taken) (other-long q _ (c .before .before .before .if1 .left) (c .before .if4 .taken))))
 
-returns-4 : tie.Need-returns-4
+bad-requires-4 : tie.Need-bad-requires-4 Inv-loop μ-loop
+bad-requires-4 c κs = search needs
+
+returns-4 : tie.Need-returns-4 Inv-loop μ-loop
 returns-4 c =
-    let f = c .before .before .w2 .given in
-    sym (on1 (c .before .before .before .before .before)
-    ∙ walk-short _ _ (f .0 .0) (f .0 .1 .0) _ (sym (c .before .before .before .before .read-field2 .ensures) ∙ ap fieldOf (f .1)) 1 (c .if2 .taken))
+    let l = c .before .before .before .before .before .before .before .loop in
+    let q = st (l .left) (l .at - l .start) (l .w0) (l .w1) (l .w2) (l .w3) in
+    rw (c .bad4 .ensures) (parses _ (Bad (l .at) NotHex) (sym (l .inv .4) ∙ loop-off walk q _ (l .at) NotHex (c .before .before .before .before .before .before .loop-test .taken) (other-wrong q _ (c .before .before .before .before .if1 .left) (c .before .before .if4 .left) (omega (arith, c .before .if5 .taken, c .before .before .before .digit-value .ensures)))))
 
-add-read-field-2 : tie.Need-add-read-field-2
-add-read-field-2 c = search needs
+mul-w0 : tie.Need-mul-w0 Inv-loop μ-loop
+mul-w0 c =
+    let l = c .before .before .before .before .before .before .loop in
+    let q = st (l .left) (l .at - l .start) (l .w0) (l .w1) (l .w2) (l .w3) in
+    omega (arith, word-fits (l .w0) (l .at - l .start) (c .before .before .digit-value .result) (l .inv .3) (c .before .if4 .left) (c .if5 .left))
 
-read-field-requires-3 : tie.Need-read-field-requires-3
-read-field-requires-3 c κs = search needs
+add-w0 : tie.Need-add-w0 Inv-loop μ-loop
+add-w0 c =
+    let l = c .before .before .before .before .before .before .loop in
+    let q = st (l .left) (l .at - l .start) (l .w0) (l .w1) (l .w2) (l .w3) in
+    omega (arith, word-fits (l .w0) (l .at - l .start) (c .before .before .digit-value .result) (l .inv .3) (c .before .if4 .left) (c .if5 .left))
 
-enum-known-w1 : tie.Need-enum-known-w1
-enum-known-w1 c = search needs
+add-at-2 : tie.Need-add-at-2 Inv-loop μ-loop
+add-at-2 c = omega arith
 
-enum-told-3 : tie.Need-enum-told-3
-enum-told-3 c = search needs
+loop-less-2 : tie.Need-loop-less-2 Inv-loop μ-loop
+loop-less-2 c = omega arith
 
-returns-5 : tie.Need-returns-5
+loop-again-2 : tie.Need-loop-again-2 Inv-loop μ-loop
+loop-again-2 c =
+    let l = c .before .before .before .before .before .before .loop in
+    let q = st (l .left) (l .at - l .start) (l .w0) (l .w1) (l .w2) (l .w3) in
+    let more : l .at + 1 - l .start ≡ l .at - l .start + 1 = omega (arith, l .inv .1) in
+    let step = other-next q _ (c .before .before .digit-value .result) (l .at + 1 - l .start) (c .before .before .digit-value .ensures) more (c .if5 .left) (c .before .if4 .left) in
+    (l .inv .0, omega (arith, l .inv .1), omega (arith, c .before .if4 .left, more), word-more (l .w0) (l .at - l .start) (l .at + 1 - l .start) (c .before .before .digit-value .result) more (l .inv .3) (c .if5 .left), sym (loop-on walk q _ _ (l .at) (c .before .before .before .before .before .loop-test .taken) step) ∙ l .inv .4)
+
+bad-requires-5 : tie.Need-bad-requires-5 Inv-loop μ-loop
+bad-requires-5 c κs = search needs
+
+returns-5 : tie.Need-returns-5 Inv-loop μ-loop
 returns-5 c =
-    let f = c .enum-told3 .given in
-    sym (on2 (c .before .before .before)
-    ∙ walk-stopped _ _ 1 (f .0 .0) _ (sym (c .before .before .read-field3 .ensures) ∙ ap fieldOf (f .1)))
+    let l = c .before .before .before .loop in
+    let q = st (l .left) (l .at - l .start) (l .w0) (l .w1) (l .w2) (l .w3) in
+    rw (c .bad5 .ensures) (parses _ (Bad (l .at) Empty) (sym (l .inv .4) ∙ loop-early walk q _ (l .at) Empty (c .before .before .loop-test .left) (end-empty q (omega (arith, c .before .if6 .taken)))))
 
-returns-6 : tie.Need-returns-6
+bad-requires-6 : tie.Need-bad-requires-6 Inv-loop μ-loop
+bad-requires-6 c κs = search needs
+
+returns-6 : tie.Need-returns-6 Inv-loop μ-loop
 returns-6 c =
-    let f = c .before .before .w1 .given in
-    sym (on2 (c .before .before .before .before .before)
-    ∙ walk-short _ _ (f .0 .0) (f .0 .1 .0) _ (sym (c .before .before .before .before .read-field3 .ensures) ∙ ap fieldOf (f .1)) 0 (c .if3 .taken))
+    let l = c .before .before .before .before .loop in
+    let q = st (l .left) (l .at - l .start) (l .w0) (l .w1) (l .w2) (l .w3) in
+    rw (c .bad6 .ensures) (parses _ (Bad (l .at) FieldCount) (sym (l .inv .4) ∙ loop-early walk q _ (l .at) FieldCount (c .before .before .before .loop-test .left) (end-few q (apart (l .at) (l .start) (l .inv .1) (c .before .before .if6 .left)) (c .before .if7 .taken))))
 
-add-read-field-3 : tie.Need-add-read-field-3
-add-read-field-3 c = search needs
-
-read-field-requires-4 : tie.Need-read-field-requires-4
-read-field-requires-4 c κs = search needs
-
-enum-known-w0 : tie.Need-enum-known-w0
-enum-known-w0 c = search needs
-
-enum-told-4 : tie.Need-enum-told-4
-enum-told-4 c = search needs
-
-returns-7 : tie.Need-returns-7
+returns-7 : tie.Need-returns-7 Inv-loop μ-loop
 returns-7 c =
-    let f = c .enum-told4 .given in
-    sym (on3 (c .before .before .before)
-    ∙ walk-stopped _ _ 0 (f .0 .0) _ (sym (c .before .before .read-field4 .ensures) ∙ ap fieldOf (f .1)))
-
-returns-8 : tie.Need-returns-8
-returns-8 c =
-    let f = c .before .before .w0 .given in
-    sym (on3 (c .before .before .before .before .before)
-    ∙ walk-long _ _ (f .0 .0) (f .0 .1 .0) _ (sym (c .before .before .before .before .read-field4 .ensures) ∙ ap fieldOf (f .1)) (c .if4 .taken))
-
-returns-9 : tie.Need-returns-9
-returns-9 c =
-    let f = c .before .before .w0 .given in
-    sym (on3 (c .before .before .before .before .before)
-    ∙ walk-end _ _ (f .0 .0) (f .0 .1 .0) _ (sym (c .before .before .before .before .read-field4 .ensures) ∙ ap fieldOf (f .1)) (c .if4 .left))
+    let l = c .before .before .before .loop in
+    let q = st (l .left) (l .at - l .start) (l .w0) (l .w1) (l .w2) (l .w3) in
+    parses _ (Read (guidOf (l .w0) (l .w1) (l .w2) (l .w3))) (sym (l .inv .4) ∙ loop-read walk q _ (l .at) _ (c .before .before .loop-test .left) (end-read q (apart (l .at) (l .start) (l .inv .1) (c .before .if6 .left)) (omega (arith, c .if7 .left))))
 
 pub parse-spec : {M : Type 1} → statement M
 parse-spec =
     tie.close
     (tie.spec
-    read-field-requires
-    enum-known-w3
-    enum-told
+    Inv-loop
+    μ-loop
+    loop-holds
+    shared-slice-read-byte
+    sub-count
+    bad-requires
     returns
+    bad-requires-2
     returns-2
-    add-read-field
-    read-field-requires-2
-    enum-known-w2
-    enum-told-2
+    sub-left
+    add-at
+    loop-less
+    loop-again
+    digit-value-requires
+    bad-requires-3
     returns-3
+    bad-requires-4
     returns-4
-    add-read-field-2
-    read-field-requires-3
-    enum-known-w1
-    enum-told-3
+    mul-w0
+    add-w0
+    add-at-2
+    loop-less-2
+    loop-again-2
+    bad-requires-5
     returns-5
+    bad-requires-6
     returns-6
-    add-read-field-3
-    read-field-requires-4
-    enum-known-w0
-    enum-told-4
-    returns-7
-    returns-8
-    returns-9)
+    returns-7)

@@ -8,7 +8,8 @@ use borrow.Author.Tests.{lt-ltb, le-ltb}
 use lib.ListN.{length, length-append}
 use Rattle.words.specs.Buffer.{over}
 use Rattle.numerals.specs.Statement.{hex}
-use Rattle.guid.specs.Text.{dash, textOf}
+use Rattle.guid.specs.Stages.{dashed}
+use Rattle.guid.specs.Text.{textOf}
 use Rattle.words.proofs.LentLaws.{back, lent-over}
 use Rattle.guid.proofs.TextLaws.{length-text, length-dashed, text-in-fields}
 use borrow.Author.Needs.{needs}
@@ -86,13 +87,13 @@ returns-2 c =
     let p2 = c .before .before .before .before .before .before .before .before .before .before .put-dashed2 in
     let p1 = c .before .before .before .before .before .before .put-dashed3 in
     let p0 = c .before .before .put in
-    let f3 : List ℕ = hex (g .w3) ++ dash in
-    let f2 : List ℕ = hex (g .w2) ++ dash in
-    let f1 : List ℕ = hex (g .w1) ++ dash in
+    let f3 : List ℕ = dashed (g .w3) in
+    let f2 : List ℕ = dashed (g .w2) in
+    let f1 : List ℕ = dashed (g .w1) in
     let f0 : List ℕ = hex (g .w0) in
-    let l3 : length f3 ≡ p3 .result = length-dashed (hex (g .w3)) ∙ sym (p3 .ensures .0) in
-    let l2 : length f2 ≡ p2 .result = length-dashed (hex (g .w2)) ∙ sym (p2 .ensures .0) in
-    let l1 : length f1 ≡ p1 .result = length-dashed (hex (g .w1)) ∙ sym (p1 .ensures .0) in
+    let l3 : length f3 ≡ p3 .result = length-dashed (g .w3) ∙ sym (p3 .ensures .0) in
+    let l2 : length f2 ≡ p2 .result = length-dashed (g .w2) ∙ sym (p2 .ensures .0) in
+    let l1 : length f1 ≡ p1 .result = length-dashed (g .w1) ∙ sym (p1 .ensures .0) in
     let m2 : length (f3 ++ f2) ≡ p3 .result + p2 .result = omega (arith, length-append f3 f2) in
     let m1 : length (f3 ++ f2 ++ f1) ≡ p3 .result + p2 .result + p1 .result = omega (arith, length-append (f3 ++ f2) f1) in
     let s3 : List ℕ = p3 .last .0 in
