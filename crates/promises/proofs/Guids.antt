@@ -1,22 +1,27 @@
 -- What is promised of GUIDs as text holds. Assumes nothing.
 use mathlib.Core.Path.{_≡_, refl, sym, _∙_, ap, subst}
-use mathlib.Core.List.{List}
+use mathlib.Core.List.{List, [], _∷_}
 use mathlib.Core.Logic.{_⊎_, inl, inr}
-use Prim.Native.Nat.{ℕ, suc, _<_}
+use Prim.Native.Nat.{ℕ, suc, _^_, _<_, _≤_}
 use native.Mathlib.Omega.{arith}
 use lib.ListN.{length, getD, take}
+use Rattle.words.specs.Text.{text, digit, spelled, digitOf}
 use Rattle.places.specs.Place.{Mendable, Place}
+use Rattle.places.specs.Machine.{Ending, read, run}
 use Rattle.places.proofs.PlaceLaws.{place-inside}
+use Rattle.places.proofs.MachineLaws.{read-not-stopped}
 use Rattle.guid.specs.declared.Guid.{Guid}
 use Rattle.guid.specs.declared.Parsed.{Parsed}
 use Rattle.guid.specs.declared.Parsed.the-variants.{Read, Bad}
 use Rattle.guid.specs.declared.Reason.{Reason}
 use Rattle.guid.specs.declared.Reason.the-variants.{Empty, TooLong, NotHex, FieldCount}
-use Rattle.guid.specs.Guid.{Fitting}
+use Rattle.guid.specs.Guid.{guidOf, Fitting}
+use Rattle.guid.specs.Digits.{value}
 use Rattle.guid.specs.Text.{textOf}
-use Rattle.guid.specs.Form.{IsText, Accepted}
+use Rattle.guid.specs.Form.{IsField, IsText, Accepted}
 use Rattle.guid.specs.Reason.{reasons}
 use Rattle.guid.specs.Statement.{Parses}
+use Rattle.guid.specs.WithPlus.{IsTextBefore, bare, led}
 use Rattle.guid.proofs.WireLaws.{read-fits}
 use Rattle.guid.proofs.Unique.{Guid-parse-unique}
 use Rattle.guid.proofs.RoundTrip.{printed-text, printed-is-text, text-tells, text-fits}
@@ -24,7 +29,7 @@ use Rattle.guid.proofs.FieldLaws.{text-bytes}
 use Rattle.guid.proofs.Plain.{plain-text}
 use Rattle.guid.proofs.ReasonLaws.{Cause, empty-at-dash, empty-at-end, ninth, other-byte, fifth, too-few, walk-cause, cause-decides, decides-one, parses-run}
 use Rattle.guid.proofs.PlusLaws.{now-before, before-now, refused-at-plus}
-use Rattle.promises.specs.Guids.{ParseAcceptsExactly, AcceptedBytes, ParsePlace, Why, ParseReason, WithoutPlusAsBefore, PlusRefused, PrintThenParse, ReadPrintParse, ReadsAsPrinted, OneGuid}
+use Rattle.promises.specs.Guids.{ParseAcceptsExactly, AcceptedBytes, ParsePlace, Why, ParseReason, WithoutPlusAsBefore, PlusRefused, PlusMatters, PrintThenParse, FittingMatters, ReadPrintParse, ReadsAsPrinted, OneGuid}
 
 pub parse-accepts-exactly : ParseAcceptsExactly
 parse-accepts-exactly s r g told = (
@@ -73,10 +78,46 @@ without-plus-as-before s r g none told =
 pub plus-refused : PlusRefused
 plus-refused s g p reason text told = refused-at-plus s g p reason text (parses-run s (Bad p reason) told)
 
+-- the field of one digit
+one-digit : (b : ℕ) → digitOf b ≤ 15 → IsField (b ∷ []) (value 0 (b ∷ []))
+one-digit b hex = record { any = omega arith; short = omega arith; hex = (hex, tt); spells = refl }
+
+pub plus-matters : PlusMatters
+unfolding run digitOf value
+plus-matters = (text "+1-2-3-4", guidOf 4 3 2 1, before, refuses)
+  where
+    before : IsTextBefore (text "+1-2-3-4") (guidOf 4 3 2 1)
+    before =
+        record {
+          f3 = text "+1";
+          f2 = text "2";
+          f1 = text "3";
+          f0 = text "4";
+          joined = refl;
+          is3 = led (text "1") refl (omega arith) (one-digit 49 (omega arith));
+          is2 = bare (one-digit 50 (omega arith));
+          is1 = bare (one-digit 51 (omega arith));
+          is0 = bare (one-digit 52 (omega arith));
+        }
+
+    refuses : (r : Parsed) → Parses (text "+1-2-3-4") r → (r ≡ Read (guidOf 4 3 2 1) → ⊥)
+    refuses r told e = read-not-stopped (guidOf 4 3 2 1) 0 NotHex (sym (parses-run _ (Read (guidOf 4 3 2 1)) (subst (λ (x : Parsed). Parses (text "+1-2-3-4") x) e told)))
+
 pub print-then-parse : PrintThenParse
 print-then-parse g before n after r fits printed told =
     let text : take n after ≡ textOf g = printed-text g before n after printed in
     Guid-parse-unique (take n after) r (Read g) told (subst (λ (s : List ℕ). IsText s g) (sym text) (printed-is-text g fits))
+
+pub fitting-matters : FittingMatters
+unfolding run digitOf textOf spelled digit
+fitting-matters = (guidOf (2 ^ 32) 0 0 0, reads)
+  where
+    reads : (r : Parsed) → Parses (textOf (guidOf (2 ^ 32) 0 0 0)) r → (r ≡ Read (guidOf (2 ^ 32) 0 0 0) → ⊥)
+    reads r told e =
+        let same : _≡_ {A = Ending Guid Reason} (read (guidOf 0 0 0 0)) (read (guidOf (2 ^ 32) 0 0 0)) = parses-run _ (Read (guidOf (2 ^ 32) 0 0 0)) (subst (λ (x : Parsed). Parses (textOf (guidOf (2 ^ 32) 0 0 0)) x) e told) in
+        let guid : guidOf 0 0 0 0 ≡ guidOf (2 ^ 32) 0 0 0 = cc in
+        let word : 0 ≡ 2 ^ 32 = ap (λ (g : Guid). g .w0) guid in
+        omega arith
 
 pub read-print-parse : ReadPrintParse
 read-print-parse bytes at g before n after r good is =

@@ -69,11 +69,19 @@ PlusRefused =
     (s : List ℕ) (g : Guid) (p : ℕ) (reason : Reason) → IsTextBefore s g → Parses s (Bad p reason)
     → (reason ≡ NotHex) × (getD s p 0 ≡ plus) × ((i : ℕ) → i < p → (getD s i 0 ≡ plus → ⊥))
 
+-- There are such texts: the premise of the first of these two is needed.
+abbrev pub PlusMatters : Type 0
+PlusMatters = (s : List ℕ) × (g : Guid) × IsTextBefore s g × ((r : Parsed) → Parses s r → (r ≡ Read g → ⊥))
+
 -- what `print` wrote, `parse` reads back
 abbrev pub PrintThenParse : Type 0
 PrintThenParse =
     (g : Guid) (before : List ℕ) (n : ℕ) (after : List ℕ) (r : Parsed)
     → Fitting g → Prints g before (Written n) after → Parses (take n after) r → r ≡ Read g
+
+-- a word over 32 bits is not read back from its eight digits: the premise is needed
+abbrev pub FittingMatters : Type 0
+FittingMatters = (g : Guid) × ((r : Parsed) → Parses (textOf g) r → (r ≡ Read g → ⊥))
 
 -- so it does for every id that `from_bytes` read, that of a packet among them
 abbrev pub ReadPrintParse : Type 0
