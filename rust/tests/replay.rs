@@ -88,7 +88,10 @@ fn answer(case: &str, expected: &str) -> Option<String> {
         ["guid-print", word] => format!("ok {}", id(word)),
         ["guid-read", word] => match Guid::from_text(&bytes(word)) {
             Ok(id) => format!("ok {}", hex(&id.0)),
-            Err(error) => format!("refused {}", error.code()),
+            Err(error) => {
+                let values = [error.position() as u64, error.reason().number().into()];
+                refused(error.code(), values)
+            }
         },
         ["guid-parts", word] => {
             let id = id(word);
