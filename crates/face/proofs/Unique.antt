@@ -10,9 +10,9 @@ use Rattle.packet.specs.Statement.{PartChecksumIs}
 use Rattle.packet_read.specs.Statement.{defaultCeiling}
 use Rattle.wire_read.specs.Statement.{TellsPlain}
 use Rattle.guid.specs.Guid.{guidOf, guidOfHalves}
-use Rattle.guid.specs.declared.Parsed.{Parsed}
-use Rattle.guid.specs.Paper.{parsedPaper}
-use Rattle.guid.proofs.Unique.{Guid-parse-unique}
+use Rattle.guid_text.specs.declared.Parsed.{Parsed}
+use Rattle.guid_text.specs.Paper.{parsedPaper}
+use Rattle.guid_text.proofs.Unique.{parse-unique}
 use Rattle.words.specs.Paper.{outcome}
 use Rattle.words.specs.declared.outcome.Outcome.{Outcome}
 use Rattle.face.specs.Statement.{Updates, WritesId, Prints, Parses, GivesParts, GivesHalves, TellsNull, Decodes, Encodes, Measures, Validates, LendsPart, Contains, DecodesRowset, EncodesRowset, MeasuresRowset, ReadsValue}
@@ -44,7 +44,7 @@ cablefinch-guid-print-unique id before = equal-to-two _ _
 
 pub cablefinch-guid-parse-unique : (text : List ℕ) → OneResult (Parses text)
 cablefinch-guid-parse-unique text r r′ (answer, parsed, tells) (answer′, parsed′, tells′) =
-    tells ∙ ap (λ (a : Parsed). outcome (parsedPaper a)) (Guid-parse-unique text answer answer′ parsed parsed′) ∙ sym tells′
+    tells ∙ ap (λ (a : Parsed). outcome (parsedPaper a)) (parse-unique text answer answer′ parsed parsed′) ∙ sym tells′
 
 pub cablefinch-guid-parts-unique : (id : List ℕ) → OneResult (GivesParts id)
 cablefinch-guid-parts-unique id = equal-to-one _

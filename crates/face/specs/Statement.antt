@@ -16,10 +16,10 @@ use Rattle.crc64.specs.Polynomial.{fold}
 use Rattle.crc64.specs.Table.{swapped}
 use Rattle.guid.specs.declared.Guid.{Guid}
 use Rattle.guid.specs.Guid.{wireBytes, guidAt, wordsOf, firstHalf, secondHalf, isNull}
-use Rattle.guid.specs.Text.{textOf, printing}
-use Rattle.guid.specs.declared.Parsed.{Parsed}
-use Rattle.guid.specs.Paper.{parsedPaper}
-use Rattle.guid.specs.Statement.{Parses as ParsesText}
+use Rattle.guid_text.specs.Text.{textOf, printing}
+use Rattle.guid_text.specs.declared.Parsed.{Parsed}
+use Rattle.guid_text.specs.Paper.{parsedPaper}
+use Rattle.guid_text.specs.Statement.{Parses as ParsesText}
 use Rattle.packet.specs.Layout.{lastType}
 use Rattle.packet.specs.Entries.{entries, lentAt, offsetAt}
 use Rattle.packet.specs.Wire.{packetBytes, partsOf}

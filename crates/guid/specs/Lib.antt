@@ -1,12 +1,3 @@
--- What a GUID is, as bytes, words, halves and text, where a text goes wrong and why, and what the functions promise.
+-- What a GUID is, as bytes, words and halves, and what the functions promise.
 pub mod Guid
-pub mod Fields
-pub mod Text
-pub mod Digits
-pub mod Form
-pub mod Reason
-pub mod Normal
-pub mod Paper
 pub mod Statement
-pub mod WithPlus
-pub mod Stages

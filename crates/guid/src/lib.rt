@@ -1,26 +1,16 @@
-// YTsaurus GUIDs after guid.rs: sixteen wire bytes, four little-endian words, two halves, and one text, the words
-// printed backwards. A GUID is held as its four words, so that the enum of an answer can carry it; the wire bytes are
-// read and written at the border.
+// YTsaurus GUIDs after guid.rs: sixteen wire bytes, four little-endian words, two halves. A GUID is held as its four words,
+// so that the enum of an answer can carry it; the wire bytes are read and written at the border. Its text is in
+// `guid_text`.
 ghost use mathlib.Core.Path.{_≡_};
 ghost use Rattle.words.specs.Statement.{Leaves};
 ghost use Rattle.words.specs.Answer.{accepted};
 ghost use Rattle.words.specs.Paper.{Tells};
 ghost use Rattle.guid.specs.Guid.{wireBytes, wordsOf};
-ghost use Rattle.guid.specs.Paper.{printedPaper, parsedPaper, reasonNumber};
-ghost use Rattle.guid.specs.Statement.{MadeOfParts, GivesParts, MadeOfHalves, GivesHalves, TellsNull, ReadsBytes, SizesText, Prints, Parses};
-use numerals::digit_value;
-use numerals::hex_size;
+ghost use Rattle.guid.specs.Statement.{MadeOfParts, GivesParts, MadeOfHalves, GivesHalves, TellsNull, ReadsBytes};
 use words::outcome::ACCEPTED;
-use words::outcome::NoRoom;
 use words::outcome::Outcome;
-use words::outcome::Room;
-use words::outcome::no_room;
-use words::outcome::refusal;
-use words::outcome::taken;
 use words::read::read_u32;
 use words::write::write_u32;
-
-mod hex;
 
 // The words in wire order.
 pub struct Guid {
@@ -35,27 +25,6 @@ pub type FourWords = [u32; 4];
 
 // Bytes 0 to 7 and bytes 8 to 15, as `TGuid` carries them.
 pub struct Halves(pub u64, pub u64);
-
-// What `print` answers: how many bytes it wrote, or 17.
-pub enum Printed {
-    Written(usize),
-    Refused(NoRoom),
-}
-
-// Why a text is refused: a field has no byte, a field has more than eight, a byte is no hex digit, or the fields are
-// not four.
-pub enum Reason {
-    Empty,
-    TooLong,
-    NotHex,
-    FieldCount,
-}
-
-// What `parse` answers: the GUID, or 16 with the place where the text goes wrong and why.
-pub enum Parsed {
-    Read(Guid),
-    Bad { position: usize, reason: Reason },
-}
 
 impl Guid {
     // The GUID of four words in wire order.
@@ -142,121 +111,6 @@ impl Guid {
         write_u32(&mut out[8..], self.w2);
         write_u32(&mut out[12..], self.w3);
     }
-
-    // How many bytes the text has.
-    pub fn text_size(self) -> usize
-        ensures { λ r. ⌜ SizesText self r ⌝ }
-    {
-        hex_size(self.w3) + hex_size(self.w2) + hex_size(self.w1) + hex_size(self.w0) + 3
-    }
-
-    // The text, over the front of `out`: Rust's `Display`.
-    pub fn print(self, out: &mut [u8]) -> Printed
-        ensures { λ r. ⌜ Prints self (now (out .entry)) r (now (out .exit)) ⌝ }
-    {
-        let needed = self.text_size();
-        if out.len() < needed {
-            return Printed::Refused(NoRoom {
-                room: Room::Output,
-                needed: needed as u64,
-                given: out.len() as u64,
-            });
-        }
-        let second = hex::put_dashed(out, self.w3);
-        let third = second + hex::put_dashed(&mut out[second..], self.w2);
-        let last = third + hex::put_dashed(&mut out[third..], self.w1);
-        hex::put(&mut out[last..], self.w0);
-        Printed::Written(needed)
-    }
-
-    // The GUID that a text of four fields between dashes spells, or where the text goes wrong and why: Rust's
-    // `from_str`, without its plus. `left` dashes are still to come, and this field began at `start`.
-    // The eighth digit has a call of its own: called once, `digit_value` is inlined and is a jump for each digit.
-    pub fn parse(text: &[u8]) -> Parsed
-        ensures { λ r. ⌜ Parses (now (text .entry)) r ⌝ }
-    {
-        let mut w0: u32 = 0;
-        let mut w1: u32 = 0;
-        let mut w2: u32 = 0;
-        let mut w3: u32 = 0;
-        let mut left: u32 = 3;
-        let mut start: usize = 0;
-        let mut at: usize = 0;
-        while at < text.len() {
-            let byte = text[at];
-            let count = at - start;
-            if byte == b'-' {
-                if count == 0 {
-                    return bad(at, Reason::Empty);
-                }
-                if left == 0 {
-                    return bad(at, Reason::FieldCount);
-                }
-                w3 = w2;
-                w2 = w1;
-                w1 = w0;
-                w0 = 0;
-                left -= 1;
-                start = at + 1;
-                at = start;
-                continue;
-            }
-            if count < 7 {
-                let value = digit_value(byte);
-                if 15 < value {
-                    return bad(at, Reason::NotHex);
-                }
-                w0 = w0 * 16 + value;
-                at += 1;
-                continue;
-            }
-            if 7 < count {
-                return bad(at, Reason::TooLong);
-            }
-            let last = digit_value(byte);
-            if 15 < last {
-                return bad(at, Reason::NotHex);
-            }
-            w0 = w0 * 16 + last;
-            at += 1;
-        }
-        if at == start {
-            return bad(at, Reason::Empty);
-        }
-        if 0 < left {
-            return bad(at, Reason::FieldCount);
-        }
-        Parsed::Read(Guid { w0, w1, w2, w3 })
-    }
-}
-
-// 16: the text goes wrong at this place, and why.
-fn bad(position: usize, reason: Reason) -> Parsed
-    ensures { λ r. ⌜ r ≡ Parsed.Bad position reason ⌝ }
-{
-    Parsed::Bad { position, reason }
-}
-
-// The number of a reason, in the order of document 02's sentence.
-fn reason_number(reason: Reason) -> u64
-    ensures { λ r. ⌜ r ≡ reasonNumber reason ⌝ }
-{
-    match reason {
-        Reason::Empty => 1,
-        Reason::TooLong => 2,
-        Reason::NotHex => 3,
-        Reason::FieldCount => 4,
-    }
-}
-
-// What `print` answered, in words.
-pub fn printed_outcome(answer: Printed) -> Outcome
-    ensures { λ r. ⌜ Tells (printedPaper answer) r ⌝ }
-{
-    match answer {
-        Printed::Written(count) => taken(count as u64, 0, 0, 0),
-        Printed::Refused(short) => no_room(short),
-    }
 }
 
 // A GUID in words: its four words in wire order.
@@ -274,21 +128,5 @@ pub fn words_outcome(id: Guid) -> Outcome
         v4: 0,
         v5: 0,
         v6: 0,
-    }
-}
-
-// What `parse` answered, in words.
-pub fn parsed_outcome(answer: Parsed) -> Outcome
-    ensures { λ r. ⌜ Tells (parsedPaper answer) r ⌝ }
-{
-    match answer {
-        Parsed::Bad { position, reason } => refusal(
-            16,
-            0,
-            position as u64,
-            reason_number(reason),
-            0,
-        ),
-        Parsed::Read(id) => words_outcome(id),
     }
 }

@@ -7,10 +7,10 @@ use Rattle.words.specs.Word as Word
 use Rattle.words.specs.Decide as Decide
 use Rattle.words.specs.Text as Number
 use Rattle.crc64.specs.Polynomial as Polynomial
-use Rattle.guid.specs.Text as Text
-use Rattle.guid.specs.declared.Parsed.the-variants.{Bad}
-use Rattle.guid.specs.declared.Reason.the-variants.{NotHex, FieldCount}
-use Rattle.guid.proofs.ReasonLaws.{parses}
+use Rattle.guid_text.specs.Text as Text
+use Rattle.guid_text.specs.declared.Parsed.the-variants.{Bad}
+use Rattle.guid_text.specs.declared.Reason.the-variants.{NotHex, FieldCount}
+use Rattle.guid_text.proofs.ReasonLaws.{parses}
 use Rattle.places.specs.Machine as Machine
 use Rattle.packet.specs.Layout as Layout
 use Rattle.packet_read.specs.Reading as Packet

@@ -11,30 +11,30 @@ use Rattle.places.specs.Machine.{Ending, read, run}
 use Rattle.places.proofs.PlaceLaws.{place-inside}
 use Rattle.places.proofs.MachineLaws.{read-not-stopped}
 use Rattle.guid.specs.declared.Guid.{Guid}
-use Rattle.guid.specs.declared.Parsed.{Parsed}
-use Rattle.guid.specs.declared.Parsed.the-variants.{Read, Bad}
-use Rattle.guid.specs.declared.Reason.{Reason}
-use Rattle.guid.specs.declared.Reason.the-variants.{Empty, TooLong, NotHex, FieldCount}
+use Rattle.guid_text.specs.declared.Parsed.{Parsed}
+use Rattle.guid_text.specs.declared.Parsed.the-variants.{Read, Bad}
+use Rattle.guid_text.specs.declared.Reason.{Reason}
+use Rattle.guid_text.specs.declared.Reason.the-variants.{Empty, TooLong, NotHex, FieldCount}
 use Rattle.guid.specs.Guid.{guidOf, Fitting}
-use Rattle.guid.specs.Digits.{value}
-use Rattle.guid.specs.Text.{textOf}
-use Rattle.guid.specs.Form.{IsField, IsText, Accepted}
-use Rattle.guid.specs.Reason.{reasons}
-use Rattle.guid.specs.Statement.{Parses}
-use Rattle.guid.specs.WithPlus.{IsTextBefore, bare, led}
+use Rattle.guid_text.specs.Digits.{value}
+use Rattle.guid_text.specs.Text.{textOf}
+use Rattle.guid_text.specs.Form.{IsField, IsText, Accepted}
+use Rattle.guid_text.specs.Reason.{reasons}
+use Rattle.guid_text.specs.Statement.{Parses}
+use Rattle.guid_text.specs.WithPlus.{IsTextBefore, bare, led}
 use Rattle.guid.proofs.WireLaws.{read-fits}
-use Rattle.guid.proofs.Unique.{Guid-parse-unique}
-use Rattle.guid.proofs.RoundTrip.{printed-text, printed-is-text, text-tells, text-fits}
-use Rattle.guid.proofs.FieldLaws.{text-bytes}
-use Rattle.guid.proofs.Plain.{plain-text}
-use Rattle.guid.proofs.ReasonLaws.{Cause, empty-at-dash, empty-at-end, ninth, other-byte, fifth, too-few, walk-cause, cause-decides, decides-one, parses-run}
-use Rattle.guid.proofs.PlusLaws.{now-before, before-now, refused-at-plus}
+use Rattle.guid_text.proofs.Unique.{parse-unique}
+use Rattle.guid_text.proofs.RoundTrip.{printed-text, printed-is-text, text-tells, text-fits}
+use Rattle.guid_text.proofs.FieldLaws.{text-bytes}
+use Rattle.guid_text.proofs.Plain.{plain-text}
+use Rattle.guid_text.proofs.ReasonLaws.{Cause, empty-at-dash, empty-at-end, ninth, other-byte, fifth, too-few, walk-cause, cause-decides, decides-one, parses-run}
+use Rattle.guid_text.proofs.PlusLaws.{now-before, before-now, refused-at-plus}
 use Rattle.promises.specs.Guids.{ParseAcceptsExactly, AcceptedBytes, ParsePlace, Why, ParseReason, WithoutPlusAsBefore, PlusRefused, PlusMatters, PrintThenParse, FittingMatters, ReadPrintParse, ReadsAsPrinted, OneGuid}
 
 pub parse-accepts-exactly : ParseAcceptsExactly
 parse-accepts-exactly s r g told = (
   (λ e. subst (λ (x : Parsed). Parses s x) e told),
-  (λ text. Guid-parse-unique s r (Read g) told text),
+  (λ text. parse-unique s r (Read g) told text),
 )
 
 pub accepted-bytes : AcceptedBytes
@@ -106,7 +106,7 @@ plus-matters = (text "+1-2-3-4", guidOf 4 3 2 1, before, refuses)
 pub print-then-parse : PrintThenParse
 print-then-parse g before n after r fits printed told =
     let text : take n after ≡ textOf g = printed-text g before n after printed in
-    Guid-parse-unique (take n after) r (Read g) told (subst (λ (s : List ℕ). IsText s g) (sym text) (printed-is-text g fits))
+    parse-unique (take n after) r (Read g) told (subst (λ (s : List ℕ). IsText s g) (sym text) (printed-is-text g fits))
 
 pub fitting-matters : FittingMatters
 unfolding run digitOf textOf spelled digit

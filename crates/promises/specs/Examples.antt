@@ -9,10 +9,10 @@ use Rattle.words.specs.Answer.{Answer, accepted, more, refuse}
 use Rattle.words.specs.Text.{text}
 use Rattle.crc64.specs.Polynomial.{checksum}
 use Rattle.guid.specs.Guid.{guidOf}
-use Rattle.guid.specs.declared.Parsed.{Parsed}
-use Rattle.guid.specs.Text.{textOf}
-use Rattle.guid.specs.Paper.{parsedPaper}
-use Rattle.guid.specs.Statement.{Parses}
+use Rattle.guid_text.specs.declared.Parsed.{Parsed}
+use Rattle.guid_text.specs.Text.{textOf}
+use Rattle.guid_text.specs.Paper.{parsedPaper}
+use Rattle.guid_text.specs.Statement.{Parses}
 use Rattle.packet_read.specs.Reading.{limited, reading as readingPacket}
 use Rattle.wire.specs.Layout.{rowWords}
 use Rattle.wire_read.specs.Reading.{reading as readingRowset}

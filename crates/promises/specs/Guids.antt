@@ -10,19 +10,20 @@ use Rattle.words.specs.Text.{digitOf}
 use Rattle.words.specs.Word.{Bytes}
 use Rattle.places.specs.Place.{Mendable}
 use Rattle.guid.specs.declared.Guid.{Guid}
-use Rattle.guid.specs.declared.Printed.the-variants.{Written}
-use Rattle.guid.specs.declared.Parsed.{Parsed}
-use Rattle.guid.specs.declared.Parsed.the-variants.{Read, Bad}
-use Rattle.guid.specs.declared.Reason.{Reason}
-use Rattle.guid.specs.declared.Reason.the-variants.{Empty, TooLong, NotHex, FieldCount}
+use Rattle.guid_text.specs.declared.Printed.the-variants.{Written}
+use Rattle.guid_text.specs.declared.Parsed.{Parsed}
+use Rattle.guid_text.specs.declared.Parsed.the-variants.{Read, Bad}
+use Rattle.guid_text.specs.declared.Reason.{Reason}
+use Rattle.guid_text.specs.declared.Reason.the-variants.{Empty, TooLong, NotHex, FieldCount}
 use Rattle.guid.specs.Guid.{Fitting}
-use Rattle.guid.specs.Fields.{dash, fields}
-use Rattle.guid.specs.Text.{textOf}
-use Rattle.guid.specs.Form.{IsText, Accepted}
-use Rattle.guid.specs.Reason.{fieldNumber, bytesBefore}
-use Rattle.guid.specs.Normal.{normal}
-use Rattle.guid.specs.Statement.{ReadsBytes, Prints, Parses}
-use Rattle.guid.specs.WithPlus.{plus, IsTextBefore, Plusless}
+use Rattle.guid_text.specs.Fields.{dash, fields}
+use Rattle.guid_text.specs.Text.{textOf}
+use Rattle.guid_text.specs.Form.{IsText, Accepted}
+use Rattle.guid_text.specs.Reason.{fieldNumber, bytesBefore}
+use Rattle.guid_text.specs.Normal.{normal}
+use Rattle.guid.specs.Statement.{ReadsBytes}
+use Rattle.guid_text.specs.Statement.{Prints, Parses}
+use Rattle.guid_text.specs.WithPlus.{plus, IsTextBefore, Plusless}
 
 -- `parse` answers this GUID exactly where the text is four fields between dashes that spell its words
 abbrev pub ParseAcceptsExactly : Type 0
