@@ -208,7 +208,7 @@ mod tests {
         error
     }
 
-    /// Document 02's examples, and those around them that `crates/guid` computes.
+    /// Document 02's examples, and those around them that `crates/guid_text` computes.
     #[test]
     fn places_and_reasons() {
         let examples: [(&str, usize, Reason); 24] = [
@@ -251,52 +251,43 @@ mod tests {
 
     #[test]
     fn what_a_person_reads() {
-        for (text, told) in [
-            ("", "not a GUID: field 1 is empty at byte 0\n    \n    ^"),
-            (
-                "1-2--4",
-                "not a GUID: field 3 is empty at byte 4\n    1-2--4\n        ^",
-            ),
-            (
-                "1-123456789-3-4",
-                "not a GUID: field 2 is too long: '9' at byte 10 is its ninth byte\n    1-123456789-3-4\n              ^",
-            ),
-            (
-                "x-2-3-4",
-                "not a GUID: 'x' at byte 0 is not a hex digit\n    x-2-3-4\n    ^",
-            ),
-            (
-                "0-0-0",
-                "not a GUID: it ends at byte 5 with 3 of 4 fields\n    0-0-0\n         ^",
-            ),
-            (
-                "1-2-3-4-5",
-                "not a GUID: a fifth field begins at byte 7\n    1-2-3-4-5\n           ^",
-            ),
-            // Pasted out of a mail: a line's end, a dash that is none, a letter of another alphabet, and
-            // nothing that can be seen at all.
-            (
-                "1-2-3-4\r\n",
-                "not a GUID: '\\r' at byte 7 is not a hex digit\n    1-2-3-4\\r\\n\n           ^",
-            ),
-            (
-                "1–2-3-4",
-                "not a GUID: '–' (U+2013) at byte 1 is not a hex digit\n    1–2-3-4\n     ^",
-            ),
-            (
-                "а-2-3-4",
-                "not a GUID: 'а' (U+0430) at byte 0 is not a hex digit\n    а-2-3-4\n    ^",
-            ),
-            (
-                "1-2\u{200b}-3-4",
-                "not a GUID: '\\u{200b}' (U+200B) at byte 3 is not a hex digit\n    1-2\\u{200b}-3-4\n       ^",
-            ),
-        ] {
+        let told = |text: &[u8], message: &str, shown: &str, column: usize| {
+            let caret = format!("{:column$}^", "");
+            let told = format!("not a GUID: {message}\n    {shown}\n    {caret}");
             assert_eq!(refused(text).to_string(), told);
-        }
-        assert_eq!(
-            refused(b"1-\xff-\xe2\x80").to_string(),
-            "not a GUID: 0xff at byte 2 is not a hex digit\n    1-\\xff-\\xe2\\x80\n      ^"
+        };
+        let same = |text: &str, message: &str, column| told(text.as_bytes(), message, text, column);
+        same("", "field 1 is empty at byte 0", 0);
+        same("1-2--4", "field 3 is empty at byte 4", 4);
+        same(
+            "1-123456789-3-4",
+            "field 2 is too long: '9' at byte 10 is its ninth byte",
+            10,
+        );
+        same("x-2-3-4", "'x' at byte 0 is not a hex digit", 0);
+        same("0-0-0", "it ends at byte 5 with 3 of 4 fields", 5);
+        same("1-2-3-4-5", "a fifth field begins at byte 7", 7);
+        // Pasted out of a mail: a dash that is none, a letter of another alphabet, a line's end, and what
+        // cannot be seen at all.
+        same("1–2-3-4", "'–' (U+2013) at byte 1 is not a hex digit", 1);
+        same("а-2-3-4", "'а' (U+0430) at byte 0 is not a hex digit", 0);
+        told(
+            b"1-2-3-4\r\n",
+            "'\\r' at byte 7 is not a hex digit",
+            "1-2-3-4\\r\\n",
+            7,
+        );
+        told(
+            "1-2\u{200b}-3-4".as_bytes(),
+            "'\\u{200b}' (U+200B) at byte 3 is not a hex digit",
+            "1-2\\u{200b}-3-4",
+            3,
+        );
+        told(
+            b"1-\xff-\xe2\x80",
+            "0xff at byte 2 is not a hex digit",
+            "1-\\xff-\\xe2\\x80",
+            2,
         );
         assert_eq!(
             format!("{:?}", refused("1-2\"")),
