@@ -1,10 +1,11 @@
 -- What is promised of GUIDs as text holds. Assumes nothing.
 use mathlib.Core.Path.{_≡_, refl, sym, _∙_, ap, subst}
-use mathlib.Core.List.{List, [], _∷_}
+use mathlib.Core.List.{List, [], _∷_, _++_}
 use mathlib.Core.Logic.{_⊎_, inl, inr}
-use Prim.Native.Nat.{ℕ, suc, _^_, _<_, _≤_}
+use Prim.Native.Nat.{ℕ, suc, _+_, _^_, _<_, _≤_}
 use native.Mathlib.Omega.{arith}
-use lib.ListN.{length, getD, take}
+use lib.ListN.{length, getD, take, length-append, List·getD-append}
+use lib.Seq.{length-take-le, getD-take}
 use Rattle.words.specs.Text.{text, digit, spelled, digitOf}
 use Rattle.places.specs.Place.{Mendable, Place}
 use Rattle.places.specs.Machine.{Ending, read, run}
@@ -17,6 +18,7 @@ use Rattle.guid_text.specs.declared.Reason.{Reason}
 use Rattle.guid_text.specs.declared.Reason.the-variants.{Empty, TooLong, NotHex, FieldCount}
 use Rattle.guid.specs.Guid.{guidOf, Fitting}
 use Rattle.guid_text.specs.Digits.{value}
+use Rattle.guid_text.specs.Fields.{dash}
 use Rattle.guid_text.specs.Text.{textOf}
 use Rattle.guid_text.specs.Form.{IsField, IsText, Accepted}
 use Rattle.guid_text.specs.Reason.{reasons}
@@ -29,7 +31,7 @@ use Rattle.guid_text.proofs.FieldLaws.{text-bytes}
 use Rattle.guid_text.proofs.Plain.{plain-text}
 use Rattle.guid_text.proofs.ReasonLaws.{Cause, empty-at-dash, empty-at-end, ninth, other-byte, fifth, too-few, walk-cause, cause-decides, decides-one, parses-run}
 use Rattle.guid_text.proofs.PlusLaws.{now-before, before-now, refused-at-plus}
-use Rattle.promises.specs.Guids.{ParseAcceptsExactly, AcceptedBytes, ParsePlace, Why, ParseReason, WithoutPlusAsBefore, PlusRefused, PlusMatters, PrintThenParse, FittingMatters, ReadPrintParse, ReadsAsPrinted, OneGuid}
+use Rattle.promises.specs.Guids.{ParseAcceptsExactly, AcceptedBytes, ParsePlace, PlaceShows, Why, ParseReason, WithoutPlusAsBefore, PlusRefused, PlusMatters, PrintThenParse, FittingMatters, ReadPrintParse, ReadsAsPrinted, OneGuid}
 
 pub parse-accepts-exactly : ParseAcceptsExactly
 parse-accepts-exactly s r g told = (
@@ -46,6 +48,28 @@ parse-place s p reason told = (place-inside Accepted s p (told .0), told .0 .bef
     not-mended : (p ≡ length s) ⊎ (Mendable Accepted (take (suc p) s) → ⊥) → p < length s → Mendable Accepted (take (suc p) s) → ⊥
     not-mended (inl end) inside = absurd (omega arith)
     not-mended (inr none) inside = none
+
+-- four fields of at most eight, and three dashes
+text-short : (s : List ℕ) (g : Guid) → IsText s g → length s ≤ 35
+text-short s g t =
+    rw
+    (t .joined, length-append (t .f3) (dash ∷ (t .f2 ++ dash ∷ (t .f1 ++ dash ∷ t .f0))), length-append (t .f2) (dash ∷ (t .f1 ++ dash ∷ t .f0)), length-append (t .f1) (dash ∷ t .f0))
+    (omega (arith, t .is3 .short, t .is2 .short, t .is1 .short, t .is0 .short))
+
+pub place-shows : PlaceShows
+place-shows s p reason told =
+    let counted : length (take p s) ≡ p = length-take-le p s (place-inside Accepted s p (told .0)) in
+    let rest : List ℕ = told .0 .before .0 in
+    let g : Guid = told .0 .before .1 .0 in
+    let mended : IsText (take p s ++ rest) g = told .0 .before .1 .1 in
+    let longer : length (take p s ++ rest) ≡ length (take p s) + length rest = length-append (take p s) rest in (
+      omega (arith, text-short (take p s ++ rest) g mended, longer, counted),
+      (λ i below.
+          subst
+          (λ (b : ℕ). (b ≡ dash) ⊎ (digitOf b ≤ 15))
+          (List·getD-append (take p s) rest 0 i (omega (arith, counted)) ∙ getD-take p s i 0 below)
+          (text-bytes (take p s ++ rest) g mended i (omega (arith, longer, counted)))),
+    )
 
 -- the table, row by row
 cause-why : (s : List ℕ) (p : ℕ) (reason : Reason) → Cause s p reason → Why s p reason

@@ -43,6 +43,13 @@ ParsePlace =
     (s : List ℕ) (p : ℕ) (reason : Reason) → Parses s (Bad p reason)
     → (p ≤ length s) × Mendable Accepted (take p s) × (p < length s → Mendable Accepted (take (suc p) s) → ⊥)
 
+-- The place is byte 35 at the latest, and each byte before it is a dash or a hex digit, one column wide: a caret under
+-- the text stands as many columns in.
+abbrev pub PlaceShows : Type 0
+PlaceShows =
+    (s : List ℕ) (p : ℕ) (reason : Reason) → Parses s (Bad p reason)
+    → (p ≤ 35) × ((i : ℕ) → i < p → (getD s i 0 ≡ dash) ⊎ (digitOf (getD s i 0) ≤ 15))
+
 -- what each reason says of the place
 abbrev pub Why : List ℕ → ℕ → Reason → Type 0
 Why s p Empty = (bytesBefore s p ≡ 0) × ((getD s p 0 ≡ dash) ⊎ (p ≡ length s))

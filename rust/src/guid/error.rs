@@ -5,8 +5,8 @@ use crate::table::count;
 use std::fmt::{self, Write as _};
 
 /// How many bytes of a refused text its error keeps, to show them. A text goes wrong at byte 35 at the
-/// latest, behind four fields of eight digits and three dashes, so the place and what stands there are
-/// among them.
+/// latest, and what stands before it are digits and dashes (the promise `place-shows`), so the place and
+/// what stands there are among them.
 const KEPT: usize = 48;
 
 /// Why a text is not a GUID's.
