@@ -36,6 +36,10 @@ int main(void) {
     IS(guid_print, CABLEFINCH_REFUSED, CABLEFINCH_NO_ROOM);
     cablefinch_guid_parse(&o, NULL, 0);
     IS(guid_parse, CABLEFINCH_REFUSED, CABLEFINCH_BAD_GUID);
+    expect("guid_parse of no text", o.values[0] == 0 && o.values[1] == CABLEFINCH_GUID_EMPTY);
+    cablefinch_guid_parse(&o, (const uint8_t *)"1-2-3-4\n", 8);
+    IS(guid_parse, CABLEFINCH_REFUSED, CABLEFINCH_BAD_GUID);
+    expect("guid_parse of a line", o.values[0] == 7 && o.values[1] == CABLEFINCH_GUID_NOT_HEX);
     cablefinch_guid_parts(&o, NULL, 0);
     IS(guid_parts, CABLEFINCH_ACCEPTED, 0);
     cablefinch_guid_halves(&o, NULL, 0);

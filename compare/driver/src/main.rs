@@ -198,7 +198,7 @@ fn table(words: u64, most: usize) -> Vec<u64> {
 fn carried(number: u64) -> usize {
     match number {
         1 | 2 | 3 | 10 | 12 | 13 | 14 | 15 => 1,
-        4 | 5 | 6 | 8 | 9 | 11 | 18 => 2,
+        4 | 5 | 6 | 8 | 9 | 11 | 16 | 18 => 2,
         7 | 17 => 3,
         _ => 0,
     }

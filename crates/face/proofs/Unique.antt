@@ -1,7 +1,7 @@
 -- One result for each statement: two outcomes, with what the lent buffers hold at exit, that meet an exported function's statement
 -- are equal. Assumes nothing.
 use Prim.Native.Nat.{ℕ}
-use mathlib.Core.Path.{_≡_, sym, _∙_}
+use mathlib.Core.Path.{_≡_, sym, _∙_, ap}
 use mathlib.Core.List.{List}
 use Rattle.words.specs.Statement.{OneResult}
 use Rattle.words.proofs.Unique.{equal-to-one}
@@ -13,6 +13,10 @@ use Rattle.packet.specs.Statement.{PartChecksumIs}
 use Rattle.packet_read.specs.Statement.{defaultCeiling}
 use Rattle.wire_read.specs.Statement.{TellsPlain}
 use Rattle.guid.specs.Guid.{guidOf, guidOfHalves}
+use Rattle.guid_text.specs.declared.Parsed.{Parsed}
+use Rattle.guid_text.specs.Paper.{parsedPaper}
+use Rattle.guid_text.proofs.Unique.{parse-unique}
+use Rattle.words.specs.Paper.{outcome}
 use Rattle.words.specs.declared.outcome.Outcome.{Outcome}
 use Rattle.face.specs.Statement.{WritesId, Prints, Parses, GivesParts, GivesHalves, TellsNull, Decodes, Encodes, Measures, Validates, LendsPart, Contains, DecodesRowset, EncodesRowset, MeasuresRowset, ReadsValue}
 
@@ -51,7 +55,8 @@ pub cablefinch-guid-print-unique : (id before : List ℕ) → OneResult (λ (x :
 cablefinch-guid-print-unique id before = equal-to-two _ _
 
 pub cablefinch-guid-parse-unique : (text : List ℕ) → OneResult (Parses text)
-cablefinch-guid-parse-unique text = equal-to-one _
+cablefinch-guid-parse-unique text r r′ (answer, parsed, tells) (answer′, parsed′, tells′) =
+    tells ∙ ap (λ (a : Parsed). outcome (parsedPaper a)) (parse-unique text answer answer′ parsed parsed′) ∙ sym tells′
 
 pub cablefinch-guid-parts-unique : (id : List ℕ) → OneResult (GivesParts id)
 cablefinch-guid-parts-unique id = equal-to-one _

@@ -14,7 +14,10 @@ use Rattle.words.specs.declared.outcome.Outcome.{Outcome}
 use Rattle.words.specs.declared.outcome.Room.the-variants.{Output}
 use Rattle.guid.specs.declared.Guid.{Guid}
 use Rattle.guid.specs.Guid.{wireBytes, guidAt, wordsOf, firstHalf, secondHalf, isNull}
-use Rattle.guid.specs.Text.{textOf, printing, reading as readingText}
+use Rattle.guid_text.specs.Text.{textOf, printing}
+use Rattle.guid_text.specs.declared.Parsed.{Parsed}
+use Rattle.guid_text.specs.Paper.{parsedPaper}
+use Rattle.guid_text.specs.Statement.{Parses as ParsesText}
 use Rattle.packet.specs.Layout.{lastType}
 use Rattle.packet.specs.Entries.{entries, lentAt, offsetAt}
 use Rattle.packet.specs.Wire.{packetBytes, partsOf}
@@ -39,8 +42,9 @@ Prints id before r after =
     let answer = printing (guidAt id 0) (length before) in
     Tells answer r × Holds answer (textOf (guidAt id 0)) before after
 
+-- the one answer that the reader's statement allows, in words: the GUID's, or 16 with position and reason
 abbrev pub Parses : List ℕ → Outcome → Type 0
-Parses text r = Tells (readingText text) r
+Parses text r = (answer : Parsed) × ParsesText text answer × Tells (parsedPaper answer) r
 
 abbrev pub GivesParts : List ℕ → Outcome → Type 0
 GivesParts id r = Tells (accepted 0 (wordsOf (guidAt id 0))) r
