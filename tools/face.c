@@ -18,10 +18,10 @@ static void expect(const char *what, int holds) {
 
 int main(void) {
     cablefinch_outcome o;
-    uint64_t parts[3 * CABLEFINCH_PART_WORDS] = {0, CABLEFINCH_NULL, 4, 0, 2, 3};
+    uint64_t parts[3 * CABLEFINCH_PART_WORDS] = {0, CABLEFINCH_NULL, 0, 4, 0, 0, 2, 3, 0};
     const uint8_t input[5] = {1, 2, 3, 4, 5};
 
-    expect("version", cablefinch_face_2() == CABLEFINCH_FACE);
+    expect("version", cablefinch_face_3() == CABLEFINCH_FACE);
     expect("checksum", cablefinch_checksum(NULL, 0) == 0);
     expect("update", cablefinch_update(7, NULL, 0) == 7);
     expect("finish", cablefinch_finish(0) == 0);

@@ -20,6 +20,8 @@ use std::io::Write;
 
 const ROUNDS: usize = 9;
 const LIMIT: u64 = 1 << 40;
+/// The words of a part in a table.
+const PART: usize = 3;
 
 #[repr(C)]
 struct Time {
@@ -230,7 +232,7 @@ fn sample(kind: PacketType, count: usize, size: usize, summed: bool) -> Sample {
         }
     }
     let parts = (0..count)
-        .flat_map(|i| [(i * size) as u64, size as u64])
+        .flat_map(|i| [(i * size) as u64, size as u64, 0])
         .collect();
     Sample {
         packet,
@@ -367,7 +369,7 @@ fn decoded(
 ) {
     let sample = make();
     table.line(name, sample.wire.len(), bar, || {
-        let mut parts = vec![0u64; 2 * sample.packet.parts.len()];
+        let mut parts = vec![0u64; PART * sample.packet.parts.len()];
         let outcome = face::decode(&sample.wire, LIMIT, &mut parts);
         assert!(outcome.kind == face::ACCEPTED && outcome.count as usize == sample.wire.len());
         let mut decoder = packets_of_crate::Decoder::new();

@@ -4,7 +4,7 @@
 
 use std::io::{self, Write};
 
-use crate::packets::{NULL_SIZE, SIGNATURE, Wire, id_of};
+use crate::packets::{NULL_SIZE, PART, SIGNATURE, Wire, id_of, part_table};
 use crate::rowsets::{NULL, crossing_with};
 use crate::text::{hex, hex_or_dash, words};
 
@@ -98,7 +98,7 @@ pub fn examples() -> Vec<String> {
     lines.push(format!("packet 80 65536 3 {}", hex(&three)));
     lines.push(format!(
         "packet-write 0 0 {ID} 81 07 {}",
-        words(&[0, NULL, 0, 0, 0, 1])
+        words(&part_table(&[0, NULL, 0, 0, 0, 1]))
     ));
     lines
 }
@@ -445,7 +445,7 @@ fn packet_tables(lines: &mut Vec<String>) {
     ];
     for table in tables {
         for kind in 0..3 {
-            let text = words(table);
+            let text = words(&part_table(table));
             lines.push(format!("validate {kind} 0 {ID} {area} {text}"));
             lines.push(format!("packet-size {kind} 65535 {ID} {area} {text}"));
             let payload: u64 = table
@@ -462,8 +462,11 @@ fn packet_tables(lines: &mut Vec<String>) {
         }
     }
     // A writer's 3: one part too many, by the shortest form of a table.
-    let most = 2u64 << 28;
-    lines.push(format!("packet-write 0 0 {NO_ID} 0 - z{}", most + 2));
+    let most = (PART as u64) << 28;
+    lines.push(format!(
+        "packet-write 0 0 {NO_ID} 0 - z{}",
+        most + PART as u64
+    ));
     for (size, table) in [
         (1 << 30, vec![0, 1 << 30]),
         ((1 << 30) + 1, vec![1, 1 << 30]),
@@ -478,13 +481,13 @@ fn packet_tables(lines: &mut Vec<String>) {
             vec![0, 1 << 30, 0, 1 << 30, 0, 1 << 30, 0, 1 << 30, 7, 7],
         ),
     ] {
-        let text = words(&table);
+        let text = words(&part_table(&table));
         lines.push(format!("validate 0 0 {NO_ID} z{size} {text}"));
         lines.push(format!("packet-size 1 0 {NO_ID} z{size} {text}"));
         lines.push(format!("packet-write 2 0 {NO_ID} 100 z{size} {text}"));
     }
     for count in [65_536, 65_537] {
-        let text = words(&[0, 0].repeat(count));
+        let text = words(&part_table(&[0, 0].repeat(count)));
         lines.push(format!("packet-size 0 0 {NO_ID} - {text}"));
         lines.push(format!("packet-write 0 0 {NO_ID} 1000000 - {text}"));
     }
@@ -721,17 +724,20 @@ pub fn huge(count: usize, output: &mut impl Write) -> io::Result<()> {
     let (rows, values) = (words(&rows), words(&values));
     let long: u64 = (1 << 32) + 4;
     let cases = [
-        format!("validate 0 0 {NO_ID} z{long} 0,{long}"),
-        format!("validate 0 0 {NO_ID} z{long} 0,4294967295"),
-        format!("packet-size 0 0 {NO_ID} z{long} 0,4294967296"),
+        format!("validate 0 0 {NO_ID} z{long} 0,{long},0"),
+        format!("validate 0 0 {NO_ID} z{long} 0,4294967295,0"),
+        format!("packet-size 0 0 {NO_ID} z{long} 0,4294967296,0"),
         format!("rowset-size z{long} 1 0,16,0,0,{long}"),
         format!("rowset-write 0 z{long} 1 0,16,0,0,4294967295"),
         format!("rowset-size z16777216 {rows} {values}"),
         format!("rowset-write 1073741823 z16777216 {rows} {values}"),
         String::from("crc 01 z1073741825"),
         String::from("crc 01 z1073741824 02"),
-        format!("validate 0 0 {NO_ID} - z{}", 2u64 << 28),
-        format!("validate 0 0 {NO_ID} - z{}", (2u64 << 28) + 2),
+        format!("validate 0 0 {NO_ID} - z{}", (PART as u64) << 28),
+        format!(
+            "validate 0 0 {NO_ID} - z{}",
+            ((PART as u64) << 28) + PART as u64
+        ),
     ];
     for line in cases.iter().take(count) {
         writeln!(output, "{line}")?;

@@ -13,10 +13,10 @@ extern "C" {
 
 /* The version of this interface. The function's name carries it, and every file that includes this header refers to the
  * function: an archive of another version does not link. */
-#define CABLEFINCH_FACE 2
-uint64_t cablefinch_face_2(void);
+#define CABLEFINCH_FACE 3
+uint64_t cablefinch_face_3(void);
 #if defined(__GNUC__)
-static uint64_t (*const cablefinch_face_linked)(void) __attribute__((used)) = cablefinch_face_2;
+static uint64_t (*const cablefinch_face_linked)(void) __attribute__((used)) = cablefinch_face_3;
 #endif
 
 /* Answers. */
@@ -87,7 +87,7 @@ enum {
 #define CABLEFINCH_MAX_VALUE_LENGTH UINT64_C(16777216)
 #define CABLEFINCH_MAX_ROWSET_SIZE (UINT64_C(1) << 30)
 #define CABLEFINCH_NULL UINT64_MAX  /* the length of a null part, the count of a null row */
-#define CABLEFINCH_PART_WORDS 2     /* the words of a part's entry: offset, length */
+#define CABLEFINCH_PART_WORDS 3     /* the words of a part's entry: offset, length, stored checksum */
 #define CABLEFINCH_VALUE_WORDS 5    /* the words of a value's entry, below */
 #define CABLEFINCH_GUID_BYTES 16
 #define CABLEFINCH_GUID_TEXT_BYTES 35 /* the longest text of a GUID */
@@ -143,8 +143,9 @@ cablefinch_outcome *cablefinch_guid_halves(cablefinch_outcome *o, const uint8_t 
 /* Whether all bytes are 0. */
 bool cablefinch_guid_is_null(const uint8_t *id, size_t n);
 
-/* Packets. A part table has CABLEFINCH_PART_WORDS words for each part: where it begins and how long it is; a null
- * part is 0 and CABLEFINCH_NULL. `words` counts the table's words. Offsets count from the start of the input that
+/* Packets. A part table has CABLEFINCH_PART_WORDS words for each part: where it begins, how long it is, and the
+ * checksum word that the packet has for it; a null part is 0, CABLEFINCH_NULL and its word. A part whose word is 0 was
+ * not verified. The writer does not read the third word: it computes checksums. `words` counts the table's words. Offsets count from the start of the input that
  * was read, or of the area that is written from. */
 
 /* Reads the packet at the front of the input into the part table. count: the bytes it takes; after

@@ -18,7 +18,7 @@ use text::{
 
 const NULL: u64 = u64::MAX;
 /// The words of a part and of a value in a table.
-const PART: u64 = 2;
+const PART: u64 = 3;
 const VALUE: u64 = 5;
 const FILL: u8 = 0xa5;
 const FILL_WORD: u64 = u64::from_ne_bytes([FILL; 8]);
@@ -373,12 +373,10 @@ fn packet(limit: u64, ceiling: Option<u32>, room: u64, input: &[u8]) -> Answer {
     let mut text = format!("ok {} {kind} {flags} {id} {count}", outcome.count);
     let (entries, rest) = parts.split_at((PART * count) as usize);
     for entry in entries.chunks_exact(PART as usize) {
-        match entry {
-            [0, NULL] => text.push_str(" null"),
-            entry => {
-                let _ = write!(text, " {}+{}", entry[0], entry[1]);
-            }
-        }
+        let _ = match entry {
+            [0, NULL, sum] => write!(text, " null:{sum}"),
+            entry => write!(text, " {}+{}:{}", entry[0], entry[1], entry[2]),
+        };
     }
     Ok(mark(text, words_kept(rest)))
 }

@@ -22,6 +22,8 @@ use text::{
 };
 
 const NULL: u64 = u64::MAX;
+/// The words of a part in a table.
+const PART: usize = 3;
 
 /// Why a case got no answer: it is no case, the Rust has none, or its answer does not count.
 enum Without {
@@ -238,15 +240,17 @@ fn packet_read(limit: u64, ceiling: Option<u32>, room: u64, bytes: &[u8]) -> Out
     if count as u64 > room {
         return Err(Without::Skip);
     }
+    let sums = stored(&read_bytes(bytes)?, count);
     let mut text = format!(
         "ok {consumed} {} {} {} {count}",
         packet.packet_type as u16,
         packet.flags.0,
         hex_or_dash(&packet.id.0)
     );
-    // An empty part has no address: it stands where the one before it ends.
+    // An empty part has no address: it stands where the one before it ends. The Rust does not tell the
+    // stored checksum words, so they are taken from the input, which has them behind the sizes.
     let mut place = 44 + 12 * count;
-    for part in &packet.parts {
+    for (part, sum) in packet.parts.iter().zip(sums) {
         match part {
             None => text.push_str(" null"),
             Some(bytes) => {
@@ -257,8 +261,18 @@ fn packet_read(limit: u64, ceiling: Option<u32>, room: u64, bytes: &[u8]) -> Out
                 place += bytes.len();
             }
         }
+        text.push_str(&format!(":{sum}"));
     }
     Ok(text)
+}
+
+/// The checksum words of the parts, as they are stored in a packet of so many that was read.
+fn stored(input: &[u8], count: usize) -> Vec<u64> {
+    let words = input.get(36 + 4 * count..).unwrap_or_default();
+    let words = words.chunks_exact(8).take(count);
+    words
+        .map(|word| u64::from_le_bytes(word.try_into().expect("eight bytes")))
+        .collect()
 }
 
 /// The packet that a case describes; `skip` where its table breaks a rule.
@@ -293,19 +307,22 @@ fn parts_of(area: &Bytes, text: &[u8]) -> Result<Vec<Option<Bytes>>, Without> {
         return Ok(Vec::new());
     }
     if let Some(count) = zeros(text)? {
-        return match count % 2 {
-            0 => Ok(vec![Some(stretch(area, 0, 0)?); count / 2]),
+        return match count % PART {
+            0 => Ok(vec![Some(stretch(area, 0, 0)?); count / PART]),
             _ => Err(Without::Skip),
         };
     }
     let mut words = text.split(|&byte| byte == b',').map(number);
-    let mut parts = Vec::with_capacity((1 + commas(text)) / 2);
+    let mut parts = Vec::with_capacity((1 + commas(text)) / PART);
     let mut kept = true;
     while let Some(offset) = words.next() {
         let offset = offset?;
-        let part = match words.next() {
-            Some(length) => part_of(area, offset, length?),
-            None => Err(Without::Skip),
+        let length = words.next().transpose()?;
+        // The third word is the stored checksum, which a writer does not read.
+        let sum = words.next().transpose()?;
+        let part = match (length, sum) {
+            (Some(length), Some(_)) => part_of(area, offset, length),
+            _ => Err(Without::Skip),
         };
         // A word that is no number, further on, still makes the line no case.
         match part {
@@ -352,7 +369,7 @@ fn part(index: u64, bytes: &[u8], parts: &[u8]) -> Outcome {
     let input = Bytes::from(read_bytes(bytes)?);
     let words = read_words(parts)?;
     let Some(entry) = words
-        .chunks_exact(2)
+        .chunks_exact(PART)
         .nth(index.min(usize::MAX as u64) as usize)
     else {
         return Err(Without::Skip);

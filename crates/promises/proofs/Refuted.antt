@@ -309,7 +309,7 @@ pub acceptance-does-not-leave-tables : AcceptanceLeavesTables → ⊥
 unfolding Word.bytesOf Word.word Decide.firstFrom Polynomial.step Polynomial.steps Polynomial.foldByte Polynomial.fold Layout.takenBefore Reading.fixedLines Reading.countLines Reading.variableLines Reading.sizeLines Reading.partLines Reading.roomLines Reading.order Reading.reading Entries.entriesFrom
 acceptance-does-not-leave-tables wrong =
     let packet : Packet = record { «packet_type» = Plain; flags = record { 0 = 0 }; id = record { w0 = 0; w1 = 0; w2 = 0; w3 = 0 }; parts = 1 } in
-    let left = wrong (header packetSignature 0 zeros 1 ++ bytesOf 8 0 ++ bytesOf 4 0 ++ bytesOf 8 0 ++ bytesOf 8 0) (limited 56 1 (7 ∷ 7 ∷ [])) (7 ∷ 7 ∷ []) (Read packet 56) (56 ∷ 0 ∷ [])
+    let left = wrong (header packetSignature 0 zeros 1 ++ bytesOf 8 0 ++ bytesOf 4 0 ++ bytesOf 8 0 ++ bytesOf 8 0) (limited 56 1 (7 ∷ 7 ∷ 7 ∷ [])) (7 ∷ 7 ∷ 7 ∷ []) (Read packet 56) (56 ∷ 0 ∷ 0 ∷ [])
     (record { answer = refl; tables = refl }) in
     let z : _≡_ {A = ℕ} 56 7 = ap (λ (l : List ℕ). getD l 0 0) left in
     omega arith
