@@ -1,12 +1,12 @@
 -- The bytes of a number in reverse order, in two parts: the n low bytes and the j above them. Assumes nothing.
-use mathlib.Core.Path.{_≡_, refl, sym, ap, ap₂, _∙_, subst}
+use mathlib.Core.Path.{_≡_, refl, sym, ap, ap₂, _∙_}
 use mathlib.Core.List.{List}
 use Prim.Native.Nat.{ℕ, zero, suc, _+_, _*_, _/_, _%_, _^_, _<_}
 use native.Mathlib.Nat.{zero-mul, zero-add, add-zero, suc-add, add-comm, add-assoc, add-mul, mul-add, mul-suc, mul-assoc, mul-mod-left, div-one, div-eq-of-lt}
 use native.Mathlib.Omega.{arith}
 use lib.ListN.{getD}
 use lib.Arith.{digits-div, digits-mod}
-use lib.Pow.{pow-add, shl-shr, shr-shr, shr-lt, field, mod-mod-pow}
+use lib.Pow.{pow-add, shl-shr, shr-shr, field, mod-mod-pow}
 use Rattle.words.specs.Word.{word, Bytes}
 use Rattle.crc64.specs.Table.{swapped}
 

@@ -1,7 +1,7 @@
 -- The loop over whole words: no bytes at all, how it starts, one turn of it and its end; and the engine by value. Assumes nothing.
 use mathlib.Core.Path.{_≡_, refl, sym, ap, ap₂, _∙_, subst}
 use mathlib.Core.List.{List, [], _∷_}
-use Prim.Native.Nat.{ℕ, suc, _+_, _-_, _*_, _/_, _%_, _^_, _≤_, _<_}
+use Prim.Native.Nat.{ℕ, _+_, _-_, _*_, _/_, _%_, _^_, _≤_, _<_}
 use native.Mathlib.Nat.{add-zero, mul-one, suc-ne-zero, lt-of-le-of-lt, div-le-self, mod-eq-of-lt, div-eq-of-lt}
 use native.Mathlib.Omega.{arith}
 use lib.ListN.{length, take, drop, length-drop, take-append-drop, drop-of-length-le}

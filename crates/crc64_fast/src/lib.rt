@@ -1,5 +1,5 @@
-// The checksum with nothing laid out: the first one to eight bytes, so that whole words are left, and then eight bytes at
-// a step. What a checksum is stands in crc64's specs/Polynomial.antt.
+// The checksum with nothing laid out: one to eight bytes first, so that whole words are left, and then eight bytes at a
+// step. What a checksum is stands in crc64's specs/Polynomial.antt.
 ghost use Rattle.crc64_fast.specs.Statement.{FoldHeldIs, FoldFastIs};
 use words::read;
 

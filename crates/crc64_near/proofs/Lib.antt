@@ -1,4 +1,4 @@
--- The arms of a table, the eight tables together, and the proofs of the functions.
+-- The arms of a table, the eight bytes of a number, and the proofs of the functions.
 pub mod Arm
-pub mod Lanes
+pub mod EightBytes
 pub mod Unique

@@ -6,8 +6,8 @@ ghost use Rattle.crc64.specs.Table.{entry};
 ghost use mathlib.Core.Path.{_≡_};
 ghost use lib.Bits.{bitXor};
 
-// Table k: the byte b and k zero bytes folded into an empty register, byte-swapped. It is asked for b with the top bit
-// turned: the compiled code reads such a table from the middle on, and this places entry b at b.
+// Table k: the byte b and k zero bytes folded into an empty register, byte-swapped. Its arm b xor 128 has entry b, and
+// it is asked so: the compiled table begins with arm 128, and entry b then stands at place b.
 
 fn table_0(asked: u8) -> u64
     ensures { λ r. ⌜ r ≡ entry 8 (bitXor asked 128) ⌝ }

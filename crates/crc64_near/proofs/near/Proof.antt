@@ -3,7 +3,7 @@
 use Prim.Native.Nat.{ℕ}
 use lib.Dec.{lit<}
 use borrow.Author.Needs.{needs}
-use Rattle.crc64_near.proofs.Lanes.{lowest, beside, whole}
+use Rattle.crc64_near.proofs.EightBytes.{lowest, beside, whole}
 use Rattle.crc64_near.proofs.near.Statement.{statement}
 use Rattle.crc64_near.proofs.near.Tie as tie
 
