@@ -4,6 +4,7 @@
 use crate::edges::{ID, NO_ID, header, rowset, word};
 use crate::packets::{Wire, id_of};
 use crate::rowsets::NULL;
+use crate::sums;
 use crate::text::{hex, words};
 
 pub fn list() -> Vec<String> {
@@ -13,6 +14,8 @@ pub fn list() -> Vec<String> {
     writer_types(&mut lines);
     guid_rooms(&mut lines);
     registers(&mut lines);
+    sums::lengths(&mut lines);
+    sums::powers(&mut lines);
     caps(&mut lines);
     large_reads(&mut lines);
     lengths(&mut lines);

@@ -1,4 +1,4 @@
-//! The fixed cases: document 01's examples (`examples`), its limits on both sides, every cut of a few
+//! The fixed cases: the documents' examples (`examples`), the limits on both sides, every cut of a few
 //! inputs and every flipped bit of some. `huge` are those that cost gigabytes or minutes; no run
 //! makes them unasked.
 
@@ -11,7 +11,8 @@ use crate::text::{hex, hex_or_dash, words};
 pub const ID: &str = "01000000020000000300000004000000";
 pub const NO_ID: &str = "00000000000000000000000000000000";
 
-/// Document 01's examples, and the vectors of the judge's self test.
+/// Document 01's examples, the vectors of the judge's self test, and document 02's examples of GUID texts that
+/// are refused (A5).
 pub fn examples() -> Vec<String> {
     let mut lines = Vec::new();
     for bytes in [
@@ -42,8 +43,34 @@ pub fn examples() -> Vec<String> {
         lines.push(format!("checksum {bytes}"));
     }
     lines.push(format!("guid-print {ID}"));
-    for text in ["4-3-2-1", "+1-2-3-4", "0-0-0"] {
-        lines.push(format!("guid-read {}", hex(text.as_bytes())));
+    for text in [
+        "4-3-2-1",
+        "+1-2-3-4",
+        "0-0-0",
+        "",
+        "-",
+        "1",
+        "1-",
+        "g",
+        "1g-",
+        "1-+2-3-4",
+        "1--2",
+        "1-2-3-",
+        "1-2-3-4-",
+        "1-2-3-4\n",
+        "1-2-3-123456789",
+        "12345678",
+        "123456789",
+        "12345678g",
+        "12345678+",
+        "12345678-",
+        "1-2-3-12345678-",
+        "1-2-3--",
+        "1-2-",
+        "1-2-3-4-5",
+        "1-2-3-4--",
+    ] {
+        lines.push(format!("guid-read {}", hex_or_dash(text.as_bytes())));
     }
     lines.push(String::from("rowset 9 9 -"));
     lines.push(format!(
@@ -186,7 +213,39 @@ fn guids(lines: &mut Vec<String>) {
     for byte in 0..=255u8 {
         lines.push(format!("guid-read 302d302d302d{byte:02x}"));
         lines.push(format!("guid-read {byte:02x}312d302d302d30"));
+        lines.push(format!("guid-read 302d3132333435363738{byte:02x}"));
     }
+    for text in places() {
+        lines.push(format!("guid-read {}", hex_or_dash(&text)));
+    }
+}
+
+/// Texts around each place where a GUID's text can go wrong: all short ones of a few pieces, and whole ones
+/// cut, or with one byte taken out, put in or put for another.
+fn places() -> Vec<Vec<u8>> {
+    let pieces: [&[u8]; 5] = [b"1", b"12345678", b"-", b"+", b"g"];
+    let mut texts = Vec::new();
+    let mut last = vec![Vec::new()];
+    for _ in 0..4 {
+        last = last
+            .iter()
+            .flat_map(|text: &Vec<u8>| pieces.map(|piece| [text, piece].concat()))
+            .collect();
+        texts.extend_from_slice(&last);
+    }
+    let wholes: [&[u8]; 2] = [b"1-2-3-4", b"12345678-9abcdef0-ABCDEF01-23456789"];
+    for whole in wholes {
+        for at in 0..=whole.len() {
+            let (before, rest) = whole.split_at(at);
+            texts.push(before.to_vec());
+            for byte in b"-0g+ \n\0\x80" {
+                texts.push([before, &[*byte], rest].concat());
+                texts.push([before, &[*byte], rest.get(1..).unwrap_or_default()].concat());
+            }
+            texts.push([before, rest.get(1..).unwrap_or_default()].concat());
+        }
+    }
+    texts
 }
 
 /// The packets of document 01's examples and some around them, sealed.

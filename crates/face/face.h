@@ -51,9 +51,18 @@ enum {
     CABLEFINCH_ROWSET_TOO_LARGE = 13,         /* the size with which the limit is first passed */
     CABLEFINCH_UNKNOWN_VALUE_TYPE = 14,       /* the type found */
     CABLEFINCH_TRAILING_BYTES = 15,           /* how many bytes follow the last row */
-    CABLEFINCH_BAD_GUID = 16,                 /* nothing */
+    CABLEFINCH_BAD_GUID = 16,                 /* where the text goes wrong, why (below) */
     CABLEFINCH_NO_ROOM = 17,                  /* which table (below), how much is needed, how much was given */
     CABLEFINCH_BAD_TABLE = 18                 /* which rule (below), where */
+};
+
+/* The second value of CABLEFINCH_BAD_GUID. The first is the first byte at which no GUID's text could go on so, counted
+ * from 0, or the text's length where it merely ends too soon; it is at most CABLEFINCH_GUID_TEXT_BYTES. */
+enum {
+    CABLEFINCH_GUID_EMPTY = 1,      /* a field has no byte */
+    CABLEFINCH_GUID_TOO_LONG = 2,   /* a field has more than eight */
+    CABLEFINCH_GUID_NOT_HEX = 3,    /* a byte is not a hex digit */
+    CABLEFINCH_GUID_FIELD_COUNT = 4 /* the fields are not four */
 };
 
 /* The first value of CABLEFINCH_NO_ROOM. It is answered only where everything else passes. Parts, rows and values
@@ -106,6 +115,13 @@ uint64_t cablefinch_checksum(const uint8_t *bytes, size_t n);
  * register is no checksum itself. */
 uint64_t cablefinch_update(uint64_t reg, const uint8_t *bytes, size_t n);
 uint64_t cablefinch_finish(uint64_t reg);
+/* The two engines, callable by name: the checksum's register, not byte-swapped, after some more bytes. From 0 both give
+ * the checksum. cablefinch_fold takes a byte at a step; cablefinch_fold8 takes eight, over tables that it lays out first,
+ * which pays from some 140 bytes on. The functions above choose by the length. */
+uint64_t cablefinch_fold(uint64_t reg, const uint8_t *bytes, size_t n);
+uint64_t cablefinch_fold8(uint64_t reg, const uint8_t *bytes, size_t n);
+/* The checksum of two stretches joined, from their checksums and the second one's length in bytes. */
+uint64_t cablefinch_combine(uint64_t first, uint64_t second, uint64_t length);
 
 /* GUIDs. An id is its CABLEFINCH_GUID_BYTES wire bytes; where fewer are given, the missing ones count as 0. */
 
@@ -117,7 +133,8 @@ cablefinch_outcome *cablefinch_guid_from_halves(cablefinch_outcome *o, uint64_t 
 /* Writes the id's text; count: its bytes, at most CABLEFINCH_GUID_TEXT_BYTES. No zero byte is written behind it. */
 cablefinch_outcome *cablefinch_guid_print(cablefinch_outcome *o, const uint8_t *id, size_t n, uint8_t *out,
         size_t room);
-/* Reads an id's text; values: the four words. */
+/* Reads an id's text, four fields of 1 to 8 hex digits with dashes between; values: the four words. Any other text is
+ * refused with CABLEFINCH_BAD_GUID, which tells where and why. */
 cablefinch_outcome *cablefinch_guid_parse(cablefinch_outcome *o, const uint8_t *text, size_t n);
 /* values: the four words. */
 cablefinch_outcome *cablefinch_guid_parts(cablefinch_outcome *o, const uint8_t *id, size_t n);

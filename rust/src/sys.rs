@@ -35,6 +35,9 @@ mod raw {
         pub(super) fn cablefinch_checksum(bytes: *const u8, n: usize) -> u64;
         pub(super) fn cablefinch_update(register: u64, bytes: *const u8, n: usize) -> u64;
         pub(super) fn cablefinch_finish(register: u64) -> u64;
+        pub(super) fn cablefinch_fold(register: u64, bytes: *const u8, n: usize) -> u64;
+        pub(super) fn cablefinch_fold8(register: u64, bytes: *const u8, n: usize) -> u64;
+        pub(super) fn cablefinch_combine(first: u64, second: u64, length: u64) -> u64;
         pub(super) fn cablefinch_guid_from_parts(o: *mut Outcome, w0: u32, w1: u32, w2: u32, w3: u32, out: *mut u8, room: usize) -> *mut Outcome;
         pub(super) fn cablefinch_guid_from_halves(o: *mut Outcome, first: u64, second: u64, out: *mut u8, room: usize) -> *mut Outcome;
         pub(super) fn cablefinch_guid_print(o: *mut Outcome, id: *const u8, n: usize, out: *mut u8, room: usize) -> *mut Outcome;
@@ -97,6 +100,21 @@ pub(crate) fn update(register: u64, bytes: &[u8]) -> u64 {
 pub(crate) fn finish(register: u64) -> u64 {
     // SAFETY: a number; any register has an answer.
     unsafe { raw::cablefinch_finish(register) }
+}
+
+pub(crate) fn fold(register: u64, bytes: &[u8]) -> u64 {
+    // SAFETY: a slice's pointer and length, only read; any register has an answer.
+    unsafe { raw::cablefinch_fold(register, bytes.as_ptr(), bytes.len()) }
+}
+
+pub(crate) fn fold8(register: u64, bytes: &[u8]) -> u64 {
+    // SAFETY: a slice's pointer and length, only read; any register has an answer.
+    unsafe { raw::cablefinch_fold8(register, bytes.as_ptr(), bytes.len()) }
+}
+
+pub(crate) fn combine(first: u64, second: u64, length: u64) -> u64 {
+    // SAFETY: three numbers; all have an answer.
+    unsafe { raw::cablefinch_combine(first, second, length) }
 }
 
 pub(crate) fn guid_from_parts(parts: [u32; 4], out: &mut [u8]) -> Outcome {

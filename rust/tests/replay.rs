@@ -5,7 +5,8 @@
 //!
 //! Left aside are cases of what the crate keeps to itself: tables that are too short (17, where the
 //! crate's own grow) or broken (18, where the crate's own are not), lone entries (`part`) and lone
-//! values (`value`); and lines that are no case, or to which the original has no answer.
+//! values (`value`); and lines that are no case, or to which the original has no answer, or one that is
+//! excepted. Of some answers the original has only the beginning, `refused 16 ..`.
 
 use cablefinch::packet::{self, Packet, PacketError, PacketFlags, PacketType, Part};
 use cablefinch::wire::{self, Rowset, UnversionedValue, Value, WireError};
@@ -29,13 +30,16 @@ fn the_stored_sample() {
     let mut aside = BTreeMap::new();
     for (case, expected) in cases.lines().zip(answers.lines()) {
         let kind = case.split(' ').next().unwrap_or_default();
-        if matches!(expected, "skip" | "bad case") || enormous(case) {
+        if matches!(expected, "skip" | "excepted" | "bad case") || enormous(case) {
             *aside.entry(kind).or_insert(0) += 1;
             continue;
         }
         match answer(case, expected) {
             Some(text) => {
-                assert_eq!(text, expected, "{case}");
+                match expected.strip_suffix("..") {
+                    Some(beginning) => assert!(text.starts_with(beginning), "{case}: {text}"),
+                    None => assert_eq!(text, expected, "{case}"),
+                }
                 *answered.entry(kind).or_insert(0) += 1;
             }
             None => {
@@ -88,7 +92,10 @@ fn answer(case: &str, expected: &str) -> Option<String> {
         ["guid-print", word] => format!("ok {}", id(word)),
         ["guid-read", word] => match Guid::from_text(&bytes(word)) {
             Ok(id) => format!("ok {}", hex(&id.0)),
-            Err(error) => format!("refused {}", error.code()),
+            Err(error) => {
+                let values = [error.position() as u64, error.reason().number().into()];
+                refused(error.code(), values)
+            }
         },
         ["guid-parts", word] => {
             let id = id(word);

@@ -3,9 +3,10 @@
 ghost use Rattle.checksum.specs.Statement.{UpdatedIs, NewIs, UpdateIs, ChainIs, AppendIs, FinishIs};
 ghost use Rattle.crc64.specs.Statement.{ChecksumIs};
 
-// From this many bytes on the eight tables are worth laying out. Each call lays its own, since a constant has no place in
-// memory: 2,048 numbers take about 240 ns longer than 256, and a byte over them takes a quarter of the time.
-pub const EIGHT_FROM: usize = 144;
+// From this many bytes on the eight tables are worth laying out, as measured on x86-64. Each call lays its own, since a
+// constant has no place in memory: 2,048 numbers take about 900 ns longer than 256 there, and a byte over them takes a
+// quarter of the time.
+pub const EIGHT_FROM: usize = 448;
 
 // The register, held byte-swapped, after the bytes: by the plain engine where they are few, eight at a step where they
 // are many.

@@ -13,10 +13,10 @@ use Rattle.words.proofs.BufferLaws.{fitted-fits}
 use Rattle.words.proofs.LentLaws.{tail, back, tail-is-drop}
 use Rattle.numerals.specs.Statement.{decimal}
 use Rattle.numerals.proofs.SpelledLaws.{length-spelled-most}
-use Rattle.guid.proofs.TextLaws.{length-text}
+use Rattle.guid_text.proofs.TextLaws.{length-text}
 use Rattle.words.specs.Text.{text}
 use Rattle.guid.specs.declared.Guid.{Guid}
-use Rattle.guid.specs.Text.{textOf, printing}
+use Rattle.guid_text.specs.Text.{textOf, printing}
 use Rattle.words.specs.Statement.{Holds}
 use Rattle.packet.specs.declared.Packet.{Packet}
 use Rattle.packet.specs.Paper.{typeNumber, fieldsOf}

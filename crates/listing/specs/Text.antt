@@ -8,7 +8,7 @@ use Rattle.words.specs.Decide.{pick, _=?_}
 use Rattle.words.specs.Text.{text}
 use Rattle.numerals.specs.Statement.{decimal}
 use Rattle.guid.specs.Guid.{guidOf}
-use Rattle.guid.specs.Text.{textOf}
+use Rattle.guid_text.specs.Text.{textOf}
 use Rattle.packet.specs.Entries.{entryWords, nullLength}
 
 -- words with a space between, and the line's end

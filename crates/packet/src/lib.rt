@@ -234,5 +234,5 @@ pub fn part<'a>(input: &'a [u8], parts: &[u64], index: usize) -> &'a [u8]
 pub fn part_checksum(input: &[u8], parts: &[u64], index: usize) -> u64
     ensures { λ r. ⌜ PartChecksumIs (now (input .entry)) (now (parts .entry)) index r ⌝ }
 {
-    crc64::checksum(part(input, parts, index))
+    checksum::checksum(part(input, parts, index))
 }

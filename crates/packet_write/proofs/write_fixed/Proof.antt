@@ -19,7 +19,7 @@ same-length c = search needs
 
 returns : tie.Need-returns
 returns c =
-    let start = c .before .before .before .before .before .before .before .before .before in
+    let start = c .before .before .before .before .before .before .before .before .before .before in
     let id = start .args .id in
     let type : ℕ = typeNumber (start .args .packet-type) in
     let flags : ℕ = start .args .flags .0 in

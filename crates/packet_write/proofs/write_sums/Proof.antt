@@ -9,7 +9,7 @@ use borrow.Author.Needs.{needs}
 use lib.ListN.{length}
 use Rattle.words.specs.Word.{Bytes}
 use Rattle.crc64.specs.Polynomial.{checksum}
-use Rattle.crc64.proofs.Entries.{checksum-over-is}
+use Rattle.crc64_eight.proofs.Lending.{checksum-lent-is}
 use Rattle.packet.specs.Entries.{room}
 use Rattle.packet.specs.Entries.{lentAt}
 use Rattle.packet.specs.Wire.{sums, sumWord, partAt, partsFrom, partsOf}
@@ -21,14 +21,14 @@ use Rattle.packet_write.proofs.write_sums.Statement.{statement}
 use Rattle.packet_write.proofs.write_sums.Tie as tie
 
 abbrev Inv-loop : tie.InvT-loop
-Inv-loop table area parts out₀ count index₀ out index = (index ≤ room parts) × Filling (sums (partsOf area parts)) (sums (partsFrom area parts index (room parts - index))) out₀ out (8 * index)
+Inv-loop tables area parts out₀ count index₀ out index = (index ≤ room parts) × Filling (sums (partsOf area parts)) (sums (partsFrom area parts index (room parts - index))) out₀ out (8 * index)
 
 abbrev μ-loop : tie.MeasureT-loop
-μ-loop table area parts out₀ count index₀ out index = count - index
+μ-loop tables area parts out₀ count index₀ out index = count - index
 
 loop-holds : tie.Need-loop-holds Inv-loop μ-loop
 loop-holds c =
-    let start = c .before .before .before in
+    let start = c .before .before .before .before in
     let area : List ℕ = start .args .area .now in
     let table : List ℕ = start .args .parts .now in
     let ready : 8 * length (partsOf area table) ≤ length (start .args .out .now) = rw (length-parts table area 0 (room table)) (start .pre .1 .1) in
@@ -37,8 +37,8 @@ loop-holds c =
 part-requires : tie.Need-part-requires Inv-loop μ-loop
 part-requires c κs = search needs
 
-checksum-over-requires : tie.Need-checksum-over-requires Inv-loop μ-loop
-checksum-over-requires c κs = search needs
+checksum-lent-requires : tie.Need-checksum-lent-requires Inv-loop μ-loop
+checksum-lent-requires c κs = search needs
 
 mul-at : tie.Need-mul-at Inv-loop μ-loop
 mul-at c = search needs
@@ -64,14 +64,14 @@ loop-less c = search needs
 loop-again : tie.Need-loop-again Inv-loop μ-loop
 unfolding sums
 loop-again c =
-    let start = c .before .before .before .before .before .before .before .before .before .before .before in
+    let start = c .before .before .before .before .before .before .before .before .before .before .before .before in
     let at = c .before .before .before .before .before .before .before .loop in
     let area : List ℕ = start .args .area .now in
     let table : List ℕ = start .args .parts .now in
-    let known : Bytes area = λ i. c .before .before .before .before .before .before .before .before .before .before .shared-slice-known .given i .fits in
+    let known : Bytes area = λ i. c .before .before .before .before .before .before .before .before .before .before .shared-slice-known2 .given i .fits in
     let below : at .index < room table = search needs in
-    let over = rw (c .before .before .before .before .before .part .ensures .bytes) at (c .before .before .before .before .checksum-over .ensures) in
-    let sum = checksum-over-is (lentAt area table (at .index)) (start .pre .0) over (bytes-lent area table (at .index) known)
+    let over = rw (c .before .before .before .before .before .part .ensures .bytes) at (c .before .before .before .before .checksum-lent .ensures) in
+    let sum = checksum-lent-is _ (lentAt area table (at .index)) (start .pre .0) over (bytes-lent area table (at .index) known)
     ∙ ap (λ (bs : List ℕ). checksum bs) (lent-content area table (start .pre .1 .0) (at .index) below) ∙ sym (sum-content (partAt area table (at .index))) in
     let filling = rw (parts-next area table (at .index) (room table) below) at (at .inv .1) in
     let rest : List ℕ = sums (partsFrom area table (at .index + 1) (room table - (at .index + 1))) in
@@ -83,7 +83,7 @@ same-length c = length-now (c .before .loop .inv .1)
 returns : tie.Need-returns Inv-loop μ-loop
 unfolding sums
 returns c =
-    let start = c .before .before .before .before .before in
+    let start = c .before .before .before .before .before .before in
     let at = c .before .loop in
     ends (rw (parts-end (start .args .area .now) (start .args .parts .now) (at .index) (room (start .args .parts .now)) (search needs)) at (at .inv .1))
 
@@ -95,7 +95,7 @@ write-sums-spec =
     μ-loop
     loop-holds
     part-requires
-    checksum-over-requires
+    checksum-lent-requires
     mul-at
     sub-write-u64
     part-write-u64-start
