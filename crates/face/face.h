@@ -116,8 +116,8 @@ uint64_t cablefinch_checksum(const uint8_t *bytes, size_t n);
 uint64_t cablefinch_update(uint64_t reg, const uint8_t *bytes, size_t n);
 uint64_t cablefinch_finish(uint64_t reg);
 /* The two engines, callable by name: the checksum's register, not byte-swapped, after some more bytes. From 0 both give
- * the checksum. cablefinch_fold takes a byte at a step; cablefinch_fold8 takes eight, over tables that it lays out first,
- * which pays from some 140 bytes on. The functions above choose by the length. */
+ * the checksum. cablefinch_fold takes a byte at a step, cablefinch_fold8 eight, each over tables that it lays out first.
+ * The functions above take eight at a step over tables that lie in the program, and are faster at every length. */
 uint64_t cablefinch_fold(uint64_t reg, const uint8_t *bytes, size_t n);
 uint64_t cablefinch_fold8(uint64_t reg, const uint8_t *bytes, size_t n);
 /* The checksum of two stretches joined, from their checksums and the second one's length in bytes. */

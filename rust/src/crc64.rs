@@ -3,7 +3,7 @@
 
 use crate::sys;
 
-/// The checksum of one stretch of bytes, by the engine that suits its length.
+/// The checksum of one stretch of bytes, by the fastest engine.
 pub fn checksum(bytes: &[u8]) -> u64 {
     sys::checksum(bytes)
 }

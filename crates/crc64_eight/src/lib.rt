@@ -11,7 +11,7 @@ use words::read;
 // The numbers of one table, and of eight.
 const ONE_TABLE: usize = 256;
 
-pub const EIGHT_TABLES: usize = 2048;
+const EIGHT_TABLES: usize = 2048;
 
 // Entry 256k + b: the byte b and k zero bytes folded into an empty register, byte-swapped. The first 256 are crc64's
 // table.

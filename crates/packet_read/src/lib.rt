@@ -1,8 +1,6 @@
 // Bus packet framing, the reading side: a packet is a fixed header of 36 bytes, mostly a variable header of part sizes
 // and checksums, and the parts. Everything is a function of lent bytes; the parts are given back as stretches of the
 // input.
-use checksum::EIGHT_FROM;
-use crc64_eight::EIGHT_TABLES;
 use guid::Guid;
 use packet::CHECKSUM_BYTES;
 use packet::COUNT_AT;
@@ -41,8 +39,6 @@ ghost use Prim.Native.Nat.{_+_, _*_, _≤_, _<_, min};
 ghost use lib.ListN.{length};
 ghost use Rattle.words.specs.Decide.{pick, _=?_, _<?_};
 ghost use Rattle.words.specs.Buffer.{over};
-ghost use Rattle.crc64.specs.Statement.{TableIs};
-ghost use Rattle.crc64_eight.specs.Engine.{Engine};
 ghost use Rattle.packet.specs.Layout as Layout;
 ghost use Rattle.packet.specs.Layout.{nullSize, largestPart, mostParts, headers, type, fields, whole};
 ghost use Rattle.packet.specs.Entries.{nullLength, entryWords, entriesFrom};
@@ -93,14 +89,13 @@ enum Parts {
 }
 
 // Whether bytes carry the checksum stored for them.
-fn verified(tables: &[u64], stored: u64, bytes: &[u8]) -> Verdict
-    requires { ⌜ Engine (now tables) ⌝ }
+fn verified(stored: u64, bytes: &[u8]) -> Verdict
     ensures { λ r. ⌜ Verifies stored (now (bytes .entry)) r ⌝ }
 {
     if stored == NULL_CHECKSUM {
         return Verdict::Passed;
     }
-    let actual = crc64_eight::checksum_lent(tables, bytes);
+    let actual = checksum::checksum(bytes);
     if actual == stored {
         return Verdict::Passed;
     }
@@ -119,8 +114,7 @@ fn header(input: &[u8], packet_type: PacketType) -> Packet
     }
 }
 
-fn fixed_header(table: &[u64; 256], input: &[u8]) -> Fixed
-    requires { ⌜ TableIs (now table) ⌝ }
+fn fixed_header(input: &[u8]) -> Fixed
     ensures { λ r. ⌜ FixedStage (now (input .entry)) r ⌝ }
 {
     if input.len() < FIXED_HEADER_SIZE {
@@ -135,7 +129,7 @@ fn fixed_header(table: &[u64; 256], input: &[u8]) -> Fixed
         TypeFound::Unknown => Fixed::Refused(PacketError::UnknownType(raw)),
         TypeFound::Known(packet_type) => {
             let expected = read_u64(input, FIXED_FIELDS_SIZE);
-            match verified(&table[..], expected, &input[..FIXED_FIELDS_SIZE]) {
+            match verified(expected, &input[..FIXED_FIELDS_SIZE]) {
                 Verdict::Failed(actual) => {
                     Fixed::Refused(PacketError::FixedHeaderChecksum { expected, actual })
                 }
@@ -204,8 +198,7 @@ fn sized(input: &[u8], count: usize, limit: u64) -> Variable
     }
 }
 
-fn variable_header(tables: &[u64], input: &[u8], count: usize, limit: u64) -> Variable
-    requires { ⌜ Engine (now tables) ⌝ }
+fn variable_header(input: &[u8], count: usize, limit: u64) -> Variable
     requires { ⌜ count ≤ mostParts ⌝ }
     ensures { λ r. ⌜ VariableStage (now (input .entry)) count limit r ⌝ }
 {
@@ -221,7 +214,7 @@ fn variable_header(tables: &[u64], input: &[u8], count: usize, limit: u64) -> Va
     }
     let sums = FIXED_HEADER_SIZE + PART_HEADER_SIZE * count;
     let expected = read_u64(input, sums);
-    match verified(tables, expected, &input[FIXED_HEADER_SIZE..sums]) {
+    match verified(expected, &input[FIXED_HEADER_SIZE..sums]) {
         Verdict::Failed(actual) => {
             Variable::Refused(PacketError::VariableHeaderChecksum { expected, actual })
         }
@@ -230,18 +223,16 @@ fn variable_header(tables: &[u64], input: &[u8], count: usize, limit: u64) -> Va
 }
 
 // A null part's checksum word is not looked at.
-fn check_part(tables: &[u64], stored: u64, size: u32, bytes: &[u8]) -> Verdict
-    requires { ⌜ Engine (now tables) ⌝ }
+fn check_part(stored: u64, size: u32, bytes: &[u8]) -> Verdict
     ensures { λ r. ⌜ PartVerifies size stored (now (bytes .entry)) r ⌝ }
 {
     if size == NULL_PART_SIZE {
         return Verdict::Passed;
     }
-    verified(tables, stored, bytes)
+    verified(stored, bytes)
 }
 
-fn check_parts(tables: &[u64], input: &[u8], count: usize) -> Parts
-    requires { ⌜ Engine (now tables) ⌝ }
+fn check_parts(input: &[u8], count: usize) -> Parts
     requires { ⌜ (whole (now input) count ≤ length (now input)) × (count ≤ mostParts) ⌝ }
     ensures { λ r. ⌜ PartsStage (now (input .entry)) count r ⌝ }
 {
@@ -252,7 +243,7 @@ fn check_parts(tables: &[u64], input: &[u8], count: usize) -> Parts
         let size = read_u32(input, FIXED_HEADER_SIZE + SIZE_BYTES * index);
         let end = at + taken(size) as usize;
         let expected = read_u64(input, sums + CHECKSUM_BYTES * index);
-        match check_part(tables, expected, size, &input[at..end]) {
+        match check_part(expected, size, &input[at..end]) {
             Verdict::Failed(actual) => {
                 return Parts::Failing {
                     index,
@@ -315,39 +306,15 @@ fn most_parts(ceiling: u32) -> u32
     }
 }
 
-// The parts of a packet of `size` bytes, by the eight tables where they are worth laying out and are not there yet.
-fn checked(tables: &[u64], input: &[u8], count: usize, size: usize) -> Parts
-    requires { ⌜ Engine (now tables) ⌝ }
-    requires { ⌜ (whole (now input) count ≤ length (now input)) × (count ≤ mostParts) ⌝ }
-    ensures { λ r. ⌜ PartsStage (now (input .entry)) count r ⌝ }
-{
-    if size < EIGHT_FROM {
-        return check_parts(tables, input, count);
-    }
-    if EIGHT_TABLES <= tables.len() {
-        return check_parts(tables, input, count);
-    }
-    let eight = crc64_eight::tables();
-    check_parts(&eight[..], input, count)
-}
-
 // A packet with a variable header: all that is asked behind the count of its parts.
-fn body_over(
-    tables: &[u64],
-    input: &[u8],
-    packet: Packet,
-    count: usize,
-    limit: u64,
-    parts: &mut [u64],
-) -> Decoded
-    requires { ⌜ Engine (now tables) ⌝ }
+fn body(input: &[u8], packet: Packet, count: usize, limit: u64, parts: &mut [u64]) -> Decoded
     requires { ⌜ (fieldsOf packet ≡ fields (now input)) × (count ≤ mostParts) × (count ≡ Layout.count (now input)) ⌝ }
     ensures { λ r. ⌜ BodyStage (now (input .entry)) count limit (now (parts .entry)) r (now (parts .exit)) ⌝ }
 {
-    match variable_header(tables, input, count, limit) {
+    match variable_header(input, count, limit) {
         Variable::More => Decoded::More,
         Variable::Refused(error) => Decoded::Refused { error, consumed: 0 },
-        Variable::Whole(consumed) => match checked(tables, input, count, consumed) {
+        Variable::Whole(consumed) => match check_parts(input, count) {
             Parts::Failing {
                 index,
                 expected,
@@ -380,26 +347,6 @@ fn body_over(
     }
 }
 
-// The same, with the tables for the bytes of the variable header: one where they are few, eight where they are many.
-fn body(
-    table: &[u64; 256],
-    input: &[u8],
-    packet: Packet,
-    count: usize,
-    limit: u64,
-    parts: &mut [u64],
-) -> Decoded
-    requires { ⌜ TableIs (now table) ⌝ }
-    requires { ⌜ (fieldsOf packet ≡ fields (now input)) × (count ≤ mostParts) × (count ≡ Layout.count (now input)) ⌝ }
-    ensures { λ r. ⌜ BodyStage (now (input .entry)) count limit (now (parts .entry)) r (now (parts .exit)) ⌝ }
-{
-    if PART_HEADER_SIZE * count < EIGHT_FROM {
-        return body_over(&table[..], input, packet, count, limit, parts);
-    }
-    let tables = crc64_eight::tables();
-    body_over(&tables[..], input, packet, count, limit, parts)
-}
-
 // Reads one packet from the front of `input`, if a whole one is there.
 pub fn decode_with(
     input: &[u8],
@@ -410,8 +357,7 @@ pub fn decode_with(
     ensures { λ r. ⌜ Decodes (now (input .entry)) (limited «max_message_size» «max_part_count» (now (parts .entry)))
         (now (parts .entry)) r (now (parts .exit)) ⌝ }
 {
-    let table = crc64::table();
-    match fixed_header(&table, input) {
+    match fixed_header(input) {
         Fixed::More => Decoded::More,
         Fixed::Refused(error) => Decoded::Refused { error, consumed: 0 },
         Fixed::Header(packet) => {
@@ -424,14 +370,7 @@ pub fn decode_with(
             }
             let packet_type = packet.packet_type;
             if has_variable_header(packet_type, count as usize) {
-                return body(
-                    &table,
-                    input,
-                    packet,
-                    count as usize,
-                    max_message_size,
-                    parts,
-                );
+                return body(input, packet, count as usize, max_message_size, parts);
             }
             Decoded::Read {
                 packet,

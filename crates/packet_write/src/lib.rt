@@ -1,6 +1,5 @@
 // Bus packet framing, the writing side: the parts that a lent table names in a lent area are written to a lent output
 // as one packet. Each writer is lent the part of the output that begins at its own place.
-use checksum::EIGHT_FROM;
 use guid::Guid;
 use packet::CHECKSUM_BYTES;
 use packet::COUNT_AT;
@@ -32,7 +31,6 @@ ghost use mathlib.Core.Bool.{false};
 ghost use Prim.Native.Nat.{_≤_, _+_, _*_};
 ghost use lib.ListN.{length, take};
 ghost use Rattle.words.specs.Buffer.{over};
-ghost use Rattle.crc64_eight.specs.Engine.{Engine};
 ghost use Rattle.packet.specs.Layout.{fixedFieldsSize, fixedHeaderSize, sizeBytes, checksumBytes};
 ghost use Rattle.packet.specs.Paper.{typeNumber};
 ghost use Rattle.packet.specs.Entries.{room, isTooLarge};
@@ -58,12 +56,11 @@ fn size_word(offset: u64, length: u64) -> u32
 }
 
 // The checksum of the output's first `size` bytes, behind them.
-fn seal(tables: &[u64], size: usize, out: &mut [u8])
-    requires { ⌜ Engine (now tables) ⌝ }
+fn seal(size: usize, out: &mut [u8])
     requires { ⌜ size + checksumBytes ≤ length (now out) ⌝ }
     ensures { λ _. ⌜ now (out .exit) ≡ over (sealed (take size (now (out .entry)))) (now (out .entry)) ⌝ }
 {
-    let sum = crc64_eight::checksum_lent(tables, &out[..size]);
+    let sum = checksum::checksum(&out[..size]);
     write_u64(&mut out[size..], sum);
 }
 
@@ -94,8 +91,7 @@ fn write_sizes(parts: &[u64], out: &mut [u8])
     }
 }
 
-fn write_sums(tables: &[u64], area: &[u8], parts: &[u64], out: &mut [u8])
-    requires { ⌜ Engine (now tables) ⌝ }
+fn write_sums(area: &[u8], parts: &[u64], out: &mut [u8])
     requires { ⌜ (room (now parts) ≤ firstOutside (now area) (now parts))
         × (checksumBytes * room (now parts) ≤ length (now out)) ⌝ }
     ensures { λ _. ⌜ now (out .exit)
@@ -104,7 +100,7 @@ fn write_sums(tables: &[u64], area: &[u8], parts: &[u64], out: &mut [u8])
     let count = parts.len() / ENTRY_WORDS;
     let mut index = 0;
     while index < count {
-        let sum = crc64_eight::checksum_lent(tables, packet::part(area, parts, index));
+        let sum = checksum::checksum(packet::part(area, parts, index));
         let at = CHECKSUM_BYTES * index;
         write_u64(&mut out[at..], sum);
         index += 1;
@@ -129,8 +125,7 @@ fn write_contents(area: &[u8], parts: &[u64], out: &mut [u8])
 }
 
 // What follows the fixed header: sizes, checksums, their checksum, and the parts.
-fn write_body(tables: &[u64], area: &[u8], parts: &[u64], out: &mut [u8])
-    requires { ⌜ Engine (now tables) ⌝ }
+fn write_body(area: &[u8], parts: &[u64], out: &mut [u8])
     requires { ⌜ Passes (now area) (now parts) × (length (body (partsOf (now area) (now parts))) ≤ length (now out)) ⌝ }
     ensures { λ _. ⌜ now (out .exit)
         ≡ over (body (partsOf (now (area .entry)) (now (parts .entry)))) (now (out .entry)) ⌝ }
@@ -138,32 +133,23 @@ fn write_body(tables: &[u64], area: &[u8], parts: &[u64], out: &mut [u8])
     let count = parts.len() / ENTRY_WORDS;
     write_sizes(parts, out);
     let sums = SIZE_BYTES * count;
-    write_sums(tables, area, parts, &mut out[sums..]);
+    write_sums(area, parts, &mut out[sums..]);
     let size = PART_HEADER_SIZE * count;
-    seal(tables, size, out);
+    seal(size, out);
     let contents = size + CHECKSUM_BYTES;
     write_contents(area, parts, &mut out[contents..]);
 }
 
-fn write_fixed(
-    tables: &[u64],
-    packet_type: PacketType,
-    flags: PacketFlags,
-    id: Guid,
-    count: u32,
-    out: &mut [u8],
-)
-    requires { ⌜ Engine (now tables) ⌝ }
+fn write_fixed(packet_type: PacketType, flags: PacketFlags, id: Guid, count: u32, out: &mut [u8])
     requires { ⌜ fixedHeaderSize ≤ length (now out) ⌝ }
     ensures { λ _. ⌜ now (out .exit)
         ≡ over (sealed (fixedFields (typeNumber «packet_type») (flags .0) id count)) (now (out .entry)) ⌝ }
 {
     write_fields(packet_type, flags, id, count, out);
-    seal(tables, FIXED_FIELDS_SIZE, out);
+    seal(FIXED_FIELDS_SIZE, out);
 }
 
-fn write_over(
-    tables: &[u64],
+fn write_packet(
     packet_type: PacketType,
     flags: PacketFlags,
     id: Guid,
@@ -171,42 +157,16 @@ fn write_over(
     parts: &[u64],
     out: &mut [u8],
 )
-    requires { ⌜ Engine (now tables) ⌝ }
     requires { ⌜ Passes (now area) (now parts)
         × (length (bytesFor «packet_type» flags id (now area) (now parts)) ≤ length (now out)) ⌝ }
     ensures { λ _. ⌜ now (out .exit)
         ≡ over (bytesFor «packet_type» flags id (now (area .entry)) (now (parts .entry))) (now (out .entry)) ⌝ }
 {
     let count = parts.len() / ENTRY_WORDS;
-    write_fixed(tables, packet_type, flags, id, count as u32, out);
+    write_fixed(packet_type, flags, id, count as u32, out);
     if packet::has_variable_header(packet_type, count) {
-        write_body(tables, area, parts, &mut out[FIXED_HEADER_SIZE..]);
+        write_body(area, parts, &mut out[FIXED_HEADER_SIZE..]);
     }
-}
-
-// The tables of the checksum are laid out once for the packet's `size` bytes: one where they are few, eight where they
-// are many.
-fn write_packet(
-    size: usize,
-    packet_type: PacketType,
-    flags: PacketFlags,
-    id: Guid,
-    area: &[u8],
-    parts: &[u64],
-    out: &mut [u8],
-)
-    requires { ⌜ Passes (now area) (now parts)
-        × (length (bytesFor «packet_type» flags id (now area) (now parts)) ≤ length (now out)) ⌝ }
-    ensures { λ _. ⌜ now (out .exit)
-        ≡ over (bytesFor «packet_type» flags id (now (area .entry)) (now (parts .entry))) (now (out .entry)) ⌝ }
-{
-    if size < EIGHT_FROM {
-        let table = crc64::table();
-        write_over(&table[..], packet_type, flags, id, area, parts, out);
-        return;
-    }
-    let tables = crc64_eight::tables();
-    write_over(&tables[..], packet_type, flags, id, area, parts, out);
 }
 
 // Writes the packet to the front of `out`. Fails on parts that `validate` would reject, so that what this writes, a
@@ -232,7 +192,7 @@ pub fn encode(
                     given: out.len() as u64,
                 }));
             }
-            write_packet(needed, packet_type, flags, id, area, parts, out);
+            write_packet(packet_type, flags, id, area, parts, out);
             Encoded::Written(needed)
         }
     }

@@ -3,7 +3,6 @@
 use mathlib.Core.Path.{sym, _∙_}
 use native.Mathlib.Omega.{arith}
 use lib.Seq.{length-take-le}
-use Rattle.crc64_eight.proofs.Lending.{one-engine}
 use Rattle.packet.specs.Layout.{fixedFieldsSize}
 use Rattle.packet.proofs.Back.{type-known}
 use Rattle.packet_read.proofs.OrderLaws.{fixed-more, fixed-signature, fixed-type, fixed-fails, fixed-passes}
@@ -40,12 +39,12 @@ read-u64-requires c κs = search needs
 
 slice-aggregate-verified : tie.Need-slice-aggregate-verified
 slice-aggregate-verified c =
-    let typed = c .before .before .before .before .before .before in
+    let typed = c .before .before .before .before .before in
     let input = typed .before .before .before .before .before .before .args .input .now in
     sym (length-take-le fixedFieldsSize input (omega arith))
 
 verified-requires : tie.Need-verified-requires
-verified-requires c κs = one-engine (c .before .before .before .before .before .before .before .before .before .before .before .before .pre)
+verified-requires c κs = search needs
 
 enum-known-actual : tie.Need-enum-known-actual
 enum-known-actual c = search needs
@@ -55,8 +54,8 @@ enum-told-2 c = search needs
 
 header-requires : tie.Need-header-requires
 header-requires c κs =
-    let typed = c .before .before .before .before .before .before .before .before .before in
-    let known = rw (c .before .before .before .before .before .before .before .packet-type .given .1) at (typed .type-of .ensures) in
+    let typed = c .before .before .before .before .before .before .before .before in
+    let known = rw (c .before .before .before .before .before .before .packet-type .given .1) at (typed .type-of .ensures) in
     known ∙ typed .before .read-u16 .ensures
 
 returns-3 : tie.Need-returns-3
@@ -70,7 +69,7 @@ returns-4 : tie.Need-returns-4
 returns-4 c rest =
     let checked = c .before .before .before in
     let told = rw (c .before .actual .given .1) at (checked .verified .ensures) in
-    let sum = checked .before .before .before in
+    let sum = checked .before .before in
     let typed = sum .before .before .before .before in
     let known = rw (sum .before .before .packet-type .given .1) at (typed .type-of .ensures) in
     let signed = typed .before .before .before in
@@ -80,7 +79,7 @@ returns-5 : tie.Need-returns-5
 returns-5 c =
     let checked = c .before .before .before in
     let told = rw (c .before .enum-told2 .given .1) at (checked .verified .ensures) in
-    let sum = checked .before .before .before in
+    let sum = checked .before .before in
     let typed = sum .before .before .before .before in
     let known = rw (sum .before .before .packet-type .given .1) at (typed .type-of .ensures) in
     let signed = typed .before .before .before in

@@ -52,13 +52,13 @@ sized-requires c κs = search needs
 
 returns-3 : tie.Need-returns-3
 returns-3 c rest = let k = c .before .before .before in
-    let start = k .before .before .before .before .before .before .before in
+    let start = k .before .before .before .before .before .before in
     let told = rw (c .before .actual .given .1, add-sub-cancel-left 36 (12 * start .args .count)) at (k .verified .ensures) in
     variable-fails _ _ _ _ (k .before .before .before .before .if1 .left) _ (k .before .before .before .if2 .left) (k .before .before .read-u64 .ensures) _ (told .0) (told .1)
 
 returns-4 : tie.Need-returns-4
 returns-4 c = let k = c .before .before .before in
-    let start = k .before .before .before .before .before .before .before in
+    let start = k .before .before .before .before .before .before in
     let told = rw (c .before .enum-told .given .1, add-sub-cancel-left 36 (12 * start .args .count)) at (k .verified .ensures) in
     behind-variable _ _ _ (c .sized .result) (λ rest. variable-passes _ _ _ rest (k .before .before .before .before .if1 .left) _ (k .before .before .before .if2 .left) (k .before .before .read-u64 .ensures) told) (c .sized .ensures)
 
