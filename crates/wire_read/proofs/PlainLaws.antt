@@ -1,6 +1,6 @@
 -- Laws of the plain form: what is still to be looked at is all that a contract speaks of. Assumes nothing.
 use mathlib.Core.Path.{_≡_, refl, sym, _∙_, ap}
-use mathlib.Core.Bool.{Bool, true, false, _&&_}
+use mathlib.Core.Bool.{Bool, true, false}
 use mathlib.Core.List.{List, []}
 use Prim.Native.Nat.{ℕ, zero, suc, _+_, _-_, _*_, _<_, _≤_}
 use native.Mathlib.Nat.{sub-zero}
@@ -20,7 +20,7 @@ use Rattle.wire_value.specs.declared.value.Header.{Header}
 use Rattle.wire.proofs.TypeLaws.{scalar-yes, scalar-low, scalar-high, blob-yes, blob-low}
 use Rattle.wire_value.proofs.HeaderLaws.{header-kind, header-aggregate, header-length}
 use Rattle.wire.proofs.LayoutLaws.{nextValues-more, nextRows-more, nextValues-far, nextRow-far, nextRows-far}
-use Rattle.wire_read.specs.Plain.{zeros, plainValue, plainValues, plainRows, isAccepted, accepts, plain}
+use Rattle.wire_read.specs.Plain.{zeros, plainValue, plainValues, plainRows, isAccepted, plain}
 use Rattle.wire_read.specs.Stages.{PlainTill, WalksRowset}
 use Rattle.wire_read.specs.declared.plain.Plain.{Plain}
 use Rattle.wire_read.specs.declared.plain.Plain.the-variants.{Till, Not}
@@ -49,10 +49,6 @@ module _ (s : List ℕ) (n start left at : ℕ) (inv : ZerosLeft s n start left 
   zeros-end h = let none : left ≡ 0 = omega arith in rw none at (inv .1)
 
 -- A value
-
-alone : (t : Bool) → t ≡ (t && true)
-alone true = refl
-alone false = refl
 
 module _ (s : List ℕ) (at : ℕ) (header : Header) (is : header ≡ headerAt s at) where
   kind-is : header .kind ≡ typeAt s at
@@ -86,16 +82,13 @@ module _ (s : List ℕ) (at : ℕ) (header : Header) (is : header ≡ headerAt s
       unfolding plainValue
       scalar-length h = rw (flag-is, scalar-is, ne-eqb (lengthAt s at) 0 (λ e. h (header-length s at header is ∙ e)))
 
-      -- a scalar but a boolean is plain by its length word
-      pub word-plain : header .kind < boolean → eqb (header .length) 0 ≡ plainValue s at
-      unfolding plainValue
-      word-plain h =
-          let type : typeAt s at < boolean = rw kind-is at h in
-          rw (flag-is, scalar-is, ne-eqb (typeAt s at) boolean (λ e. omega arith), header-length s at header is) (alone (eqb (lengthAt s at) 0))
-
       module _ (none : header .length ≡ 0) where
         length-none : eqb (lengthAt s at) 0 ≡ true
         length-none = eq-eqb (lengthAt s at) 0 (sym (header-length s at header is) ∙ none)
+
+        pub word-plain : (header .kind ≡ boolean → ⊥) → true ≡ plainValue s at
+        unfolding plainValue
+        word-plain other = rw (flag-is, scalar-is, length-none, ne-eqb (typeAt s at) boolean (λ e. other (kind-is ∙ e)))
 
         pub boolean-plain : header .kind ≡ boolean → (n : ℕ) → n ≡ scalarAt s at → ltb n 2 ≡ plainValue s at
         unfolding plainValue
