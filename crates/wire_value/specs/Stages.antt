@@ -14,7 +14,8 @@ use Rattle.wire_value.specs.declared.value.Expected.the-variants.{Payloa
 abbrev pub headerOrder : ℕ → ℕ → List (Line Answer)
 headerOrder type n = not (known type) ⇒ refuse 14 (type ∷ []) ∷ (blob type && maxLength <? n) ⇒ refuse 12 (n ∷ []) ∷ []
 
--- the type is known, a blob's length is allowed, and the payload is to have so many bytes; or the refusal, whatever follows
+-- the type is known, a blob's length is allowed, and the payload is to have so many bytes; or the refusal, whatever
+-- follows
 abbrev pub Expects : ℕ → ℕ → Expected → Type 0
 Expects type n (Payload size) = (known type ≡ true) × ((blob type && maxLength <? n) ≡ false) × (payload type n ≡ size)
 Expects type n (Refused refusal) = (rest : Answer) → decide (headerOrder type n) rest ≡ paper refusal
