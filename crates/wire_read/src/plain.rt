@@ -52,8 +52,8 @@ fn plain_value(input: &[u8], at: usize) -> bool
         return false;
     }
     match kind_of(header.kind as u64) {
-        Kind::Null => true,
-        Kind::Unknown => true,
+        Kind::Null => header.length == 0,
+        Kind::Unknown => header.length == 0,
         Kind::Scalar => {
             if header.length != 0 {
                 return false;

@@ -92,17 +92,17 @@ zeros-requires c κs =
 
 returns-4 : tie.Need-returns-4
 returns-4 c =
-    let start = c .before .before .before .before .before .before .before .before in
-    let read = c .before .before .before .before .before .before .read-header in
-    let null = kind-null (read .result .kind) _ (c .before .before .kind-of .ensures) (c .enum-told .given .1) in
-    value-null (start .args .input .now) (start .args .at) (read .result) (read .ensures) (c .before .before .before .before .if1 .left) null
+    let start = c .before .before .before .before .before .before .before .before .before in
+    let read = c .before .before .before .before .before .before .before .read-header in
+    let null = kind-null (read .result .kind) _ (c .before .before .before .kind-of .ensures) (c .before .enum-told .given .1) in
+    value-null (start .args .input .now) (start .args .at) (read .result) (read .ensures) (c .before .before .before .before .before .if1 .left) null
 
 returns-5 : tie.Need-returns-5
 returns-5 c =
-    let start = c .before .before .before .before .before .before .before .before in
-    let read = c .before .before .before .before .before .before .read-header in
-    let unknown = kind-unknown (read .result .kind) _ (c .before .before .kind-of .ensures) (c .enum-told2 .given .1) in
-    value-unknown (start .args .input .now) (start .args .at) (read .result) (read .ensures) (c .before .before .before .before .if1 .left) (unknown .1) (unknown .2)
+    let start = c .before .before .before .before .before .before .before .before .before in
+    let read = c .before .before .before .before .before .before .before .read-header in
+    let unknown = kind-unknown (read .result .kind) _ (c .before .before .before .kind-of .ensures) (c .before .enum-told2 .given .1) in
+    value-unknown (start .args .input .now) (start .args .at) (read .result) (read .ensures) (c .before .before .before .before .before .if1 .left) (unknown .1) (unknown .2)
 
 returns-6 : tie.Need-returns-6
 returns-6 c =
