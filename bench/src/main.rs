@@ -117,17 +117,22 @@ impl Table {
                 format!("{bar:.2} MISSED")
             }
         };
-        let ratio = match ratio.is_nan() {
-            true => "-".to_string(),
-            false => format!("{ratio:.2}"),
-        };
         println!(
-            "| {name} | {size} | {} | {} | {ratio} | {verdict} | {} | {:.2} |",
+            "| {name} | {size} | {} | {} | {} | {verdict} | {} | {} |",
             scaled(rust),
             scaled(port),
+            shown(ratio),
             scaled(wrapped),
-            rust / wrapped
+            shown(rust / wrapped)
         );
+    }
+}
+
+/// A ratio, or `-` where one side has no such call.
+fn shown(ratio: f64) -> String {
+    match ratio.is_nan() {
+        true => "-".to_string(),
+        false => format!("{ratio:.2}"),
     }
 }
 
@@ -560,6 +565,14 @@ fn rowset(table: &mut Table, name: &str, batch: usize, sample: &[MaybeRow]) {
     let outcome = face::encode_rowset(&wire, &row_table, &value_table, &mut out);
     assert!(outcome.kind == face::ACCEPTED && out == wire);
     let mut buffer = BytesMut::with_capacity(wire.len());
+    table.line(&format!("{name}, is it plain"), wire.len(), None, || {
+        assert!(face::is_plain(&wire) && rowsets_of_crate::is_plain(&wire));
+        Times {
+            rust: f64::NAN,
+            port: time(batch, || (), |()| face::is_plain(&wire)),
+            wrapped: time(batch, || (), |()| rowsets_of_crate::is_plain(&wire)),
+        }
+    });
     let read = rowsets_of_crate::decode_rowset(&wire).unwrap();
     let rows: Vec<Option<Vec<_>>> = read
         .rows()

@@ -13,6 +13,7 @@ pub fn list() -> Vec<String> {
     ceilings(&mut lines);
     writer_types(&mut lines);
     guid_rooms(&mut lines);
+    nulls(&mut lines);
     registers(&mut lines);
     sums::lengths(&mut lines);
     sums::powers(&mut lines);
@@ -34,6 +35,19 @@ fn booleans(lines: &mut Vec<String>) {
                 }
                 lines.push(format!("value 16 {}", hex(&bytes)));
             }
+        }
+    }
+}
+
+/// A Null's length word is not read, and its rowset is plain only where the word is 0 (document 02, A2).
+fn nulls(lines: &mut Vec<String>) {
+    for length in [0, 1, 1 << 8, 1 << 16, 1 << 24, 1 << 31, u32::MAX] {
+        for aggregate in [0, 1, 2] {
+            let head = header(7, 2, aggregate, length);
+            let bytes = rowset(&[&word(1), &word(2), &head, &header(8, 3, 0, 0), &word(5)]);
+            lines.push(format!("plain {}", hex(&bytes)));
+            lines.push(format!("rowset 1 2 {}", hex(&bytes)));
+            lines.push(format!("value 16 {}", hex(&bytes)));
         }
     }
 }

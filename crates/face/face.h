@@ -209,8 +209,8 @@ cablefinch_outcome *cablefinch_rowset_size(cablefinch_outcome *o, const uint8_t 
 /* Reads the one value that begins at `at`; values: the words of its entry; count: where the next value begins. */
 cablefinch_outcome *cablefinch_read_value(cablefinch_outcome *o, const uint8_t *input, size_t n, size_t at);
 /* Whether the input is a rowset in the one form that is written: flags and booleans 0 or 1, the length words of
- * scalars 0, padding zero, at most CABLEFINCH_MAX_ROWSET_SIZE bytes. The length word of a Null value is not looked
- * at. */
+ * scalars and of Null 0, padding zero, at most CABLEFINCH_MAX_ROWSET_SIZE bytes. Two such inputs with the same rows
+ * are the same bytes. */
 bool cablefinch_is_plain(const uint8_t *input, size_t n);
 
 #ifdef __cplusplus

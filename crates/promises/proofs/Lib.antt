@@ -22,6 +22,7 @@ pub mod IgnoredBytes
 pub mod ContentLaws
 pub mod PlainWritten
 pub mod Rowsets
+pub mod OnePlainForm
 pub mod RowsetRefuted
 pub mod Guids
 pub mod Examples
