@@ -114,6 +114,15 @@ pub fn read_id(word: &[u8]) -> Result<[u8; 16], BadCase> {
     read_bytes(word)?.try_into().map_err(|_| BadCase)
 }
 
+/// A register or a checksum: 16 hex digits.
+pub fn read_register(word: &[u8]) -> Result<u64, BadCase> {
+    if word.len() != 16 {
+        return Err(BadCase);
+    }
+    let bytes = read_bytes(word)?.try_into().map_err(|_| BadCase)?;
+    Ok(u64::from_be_bytes(bytes))
+}
+
 // Written.
 
 pub fn hex(bytes: &[u8]) -> String {

@@ -57,7 +57,8 @@ int main(int count, char **words) {
             if (cablefinch_part_state(n - at, parts, filled, (size_t)index) == CABLEFINCH_PART_NULL)
                 printf("part %" PRIu64 " null\n", index);
             else
-                printf("part %" PRIu64 " %" PRIu64 "\n", index, length);
+                printf("part %" PRIu64 " %" PRIu64 " %s\n", index, length,
+                        parts[index * CABLEFINCH_PART_WORDS + 2] != 0 ? "guarded" : "bare");
         }
         at += (size_t)o.count;
     }

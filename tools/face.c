@@ -18,13 +18,16 @@ static void expect(const char *what, int holds) {
 
 int main(void) {
     cablefinch_outcome o;
-    uint64_t parts[3 * CABLEFINCH_PART_WORDS] = {0, CABLEFINCH_NULL, 4, 0, 2, 3};
+    uint64_t parts[3 * CABLEFINCH_PART_WORDS] = {0, CABLEFINCH_NULL, 0, 4, 0, 0, 2, 3, 0};
     const uint8_t input[5] = {1, 2, 3, 4, 5};
 
-    expect("version", cablefinch_face_3() == CABLEFINCH_FACE);
+    expect("version", cablefinch_face_4() == CABLEFINCH_FACE);
     expect("checksum", cablefinch_checksum(NULL, 0) == 0);
     expect("update", cablefinch_update(7, NULL, 0) == 7);
     expect("finish", cablefinch_finish(0) == 0);
+    expect("fold", cablefinch_fold(7, NULL, 0) == 7);
+    expect("fold8", cablefinch_fold8(7, NULL, 0) == 7);
+    expect("combine", cablefinch_combine(7, 0, 0) == 7);
     cablefinch_guid_from_parts(&o, 1, 2, 3, 4, NULL, 0);
     IS(guid_from_parts, CABLEFINCH_REFUSED, CABLEFINCH_NO_ROOM);
     cablefinch_guid_from_halves(&o, 1, 2, NULL, 0);
@@ -33,6 +36,10 @@ int main(void) {
     IS(guid_print, CABLEFINCH_REFUSED, CABLEFINCH_NO_ROOM);
     cablefinch_guid_parse(&o, NULL, 0);
     IS(guid_parse, CABLEFINCH_REFUSED, CABLEFINCH_BAD_GUID);
+    expect("guid_parse of no text", o.values[0] == 0 && o.values[1] == CABLEFINCH_GUID_EMPTY);
+    cablefinch_guid_parse(&o, (const uint8_t *)"1-2-3-4\n", 8);
+    IS(guid_parse, CABLEFINCH_REFUSED, CABLEFINCH_BAD_GUID);
+    expect("guid_parse of a line", o.values[0] == 7 && o.values[1] == CABLEFINCH_GUID_NOT_HEX);
     cablefinch_guid_parts(&o, NULL, 0);
     IS(guid_parts, CABLEFINCH_ACCEPTED, 0);
     cablefinch_guid_halves(&o, NULL, 0);

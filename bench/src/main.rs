@@ -22,6 +22,8 @@ const ROUNDS: usize = 9;
 const LIMIT: u64 = 1 << 40;
 /// The mode in which the port does what the Rust does.
 const ARCHIVE: u64 = 0;
+/// The words of a part in a table.
+const PART: usize = 3;
 
 #[repr(C)]
 struct Time {
@@ -117,17 +119,22 @@ impl Table {
                 format!("{bar:.2} MISSED")
             }
         };
-        let ratio = match ratio.is_nan() {
-            true => "-".to_string(),
-            false => format!("{ratio:.2}"),
-        };
         println!(
-            "| {name} | {size} | {} | {} | {ratio} | {verdict} | {} | {:.2} |",
+            "| {name} | {size} | {} | {} | {} | {verdict} | {} | {} |",
             scaled(rust),
             scaled(port),
+            shown(ratio),
             scaled(wrapped),
-            rust / wrapped
+            shown(rust / wrapped)
         );
+    }
+}
+
+/// A ratio, or `-` where one side has no such call.
+fn shown(ratio: f64) -> String {
+    match ratio.is_nan() {
+        true => "-".to_string(),
+        false => format!("{ratio:.2}"),
     }
 }
 
@@ -164,9 +171,9 @@ fn id() -> Guid {
 fn checksums(table: &mut Table) {
     for (name, size, batch, bar) in [
         ("checksum 28 B", 28, 20_000, None),
-        ("checksum 1 KiB", 1024, 1_000, Some(0.97)),
-        ("checksum 64 KiB", 65_536, 20, Some(0.97)),
-        ("checksum 64 MiB", 1 << 26, 1, Some(0.97)),
+        ("checksum 1 KiB", 1024, 1_000, Some(2.5)),
+        ("checksum 64 KiB", 65_536, 20, Some(3.5)),
+        ("checksum 64 MiB", 1 << 26, 1, Some(3.5)),
     ] {
         table.line(name, size, bar, || {
             let bytes = noise(size);
@@ -176,6 +183,29 @@ fn checksums(table: &mut Table) {
                 port: time(batch, || (), |()| face::checksum(&bytes)),
                 wrapped: time(batch, || (), |()| cablefinch::checksum(&bytes)),
             }
+        });
+    }
+    // The Rust has no such operation: its checksum of 4 KiB stands beside it.
+    let bytes = noise(4096);
+    for (name, length) in [
+        ("combine over 64 KiB, beside a checksum of 4 KiB", 1 << 16),
+        (
+            "combine over 2^64 - 1 bytes, beside a checksum of 4 KiB",
+            u64::MAX,
+        ),
+    ] {
+        table.line(name, 0, Some(1.0), || Times {
+            rust: time(1_000, || (), |()| oracle::crc64::checksum(&bytes)),
+            port: time(
+                1_000,
+                || (),
+                |()| face::combine(black_box(1), 2, black_box(length)),
+            ),
+            wrapped: time(
+                1_000,
+                || (),
+                |()| cablefinch::crc64::combine(black_box(1), 2, black_box(length)),
+            ),
         });
     }
 }
@@ -209,7 +239,7 @@ fn sample(kind: PacketType, count: usize, size: usize, summed: bool) -> Sample {
         }
     }
     let parts = (0..count)
-        .flat_map(|i| [(i * size) as u64, size as u64])
+        .flat_map(|i| [(i * size) as u64, size as u64, 0])
         .collect();
     Sample {
         packet,
@@ -229,8 +259,8 @@ fn packets(table: &mut Table) {
     encoded(table, "Ack encoded", 2_000, None, ack);
     decoded(table, "3 parts of 100 B decoded", 1_000, Some(0.97), small);
     encoded(table, "3 parts of 100 B encoded", 1_000, Some(0.97), small);
-    decoded(table, "1,000 parts of 1 KiB decoded", 4, Some(0.97), large);
-    encoded(table, "1,000 parts of 1 KiB encoded", 4, Some(0.97), large);
+    decoded(table, "1,000 parts of 1 KiB decoded", 4, Some(3.0), large);
+    encoded(table, "1,000 parts of 1 KiB encoded", 4, Some(3.0), large);
     decoded(
         table,
         "1,000 parts of 1 KiB without checksums decoded",
@@ -346,7 +376,7 @@ fn decoded(
 ) {
     let sample = make();
     table.line(name, sample.wire.len(), bar, || {
-        let mut parts = vec![0u64; 2 * sample.packet.parts.len()];
+        let mut parts = vec![0u64; PART * sample.packet.parts.len()];
         let outcome = face::decode(ARCHIVE, &sample.wire, LIMIT, &mut parts);
         assert!(outcome.kind == face::ACCEPTED && outcome.count as usize == sample.wire.len());
         let mut decoder = packets_of_crate::Decoder::archive();
@@ -537,6 +567,14 @@ fn rowset(table: &mut Table, name: &str, batch: usize, sample: &[MaybeRow]) {
     let outcome = face::encode_rowset(&wire, &row_table, &value_table, &mut out);
     assert!(outcome.kind == face::ACCEPTED && out == wire);
     let mut buffer = BytesMut::with_capacity(wire.len());
+    table.line(&format!("{name}, is it plain"), wire.len(), None, || {
+        assert!(face::is_plain(&wire) && rowsets_of_crate::is_plain(&wire));
+        Times {
+            rust: f64::NAN,
+            port: time(batch, || (), |()| face::is_plain(&wire)),
+            wrapped: time(batch, || (), |()| rowsets_of_crate::is_plain(&wire)),
+        }
+    });
     let read = rowsets_of_crate::decode_rowset(&wire).unwrap();
     let rows: Vec<Option<Vec<_>>> = read
         .rows()

@@ -2,8 +2,9 @@
 //! found missing once. They stand beside `edges`, from which the stored sample of `replay` is chosen.
 
 use crate::edges::{ID, NO_ID, header, rowset, word};
-use crate::packets::{SIGNATURE, Wire, id_of};
+use crate::packets::{SIGNATURE, Wire, id_of, part_table};
 use crate::rowsets::NULL;
+use crate::sums;
 use crate::text::{hex, words};
 
 pub fn list() -> Vec<String> {
@@ -13,7 +14,10 @@ pub fn list() -> Vec<String> {
     writer_types(&mut lines);
     live(&mut lines);
     guid_rooms(&mut lines);
+    nulls(&mut lines);
     registers(&mut lines);
+    sums::lengths(&mut lines);
+    sums::powers(&mut lines);
     caps(&mut lines);
     large_reads(&mut lines);
     lengths(&mut lines);
@@ -32,6 +36,19 @@ fn booleans(lines: &mut Vec<String>) {
                 }
                 lines.push(format!("value 16 {}", hex(&bytes)));
             }
+        }
+    }
+}
+
+/// A Null's length word is not read, and its rowset is plain only where the word is 0 (document 02, A2).
+fn nulls(lines: &mut Vec<String>) {
+    for length in [0, 1, 1 << 8, 1 << 16, 1 << 24, 1 << 31, u32::MAX] {
+        for aggregate in [0, 1, 2] {
+            let head = header(7, 2, aggregate, length);
+            let bytes = rowset(&[&word(1), &word(2), &head, &header(8, 3, 0, 0), &word(5)]);
+            lines.push(format!("plain {}", hex(&bytes)));
+            lines.push(format!("rowset 1 2 {}", hex(&bytes)));
+            lines.push(format!("value 16 {}", hex(&bytes)));
         }
     }
 }
@@ -66,7 +83,15 @@ fn ceilings(lines: &mut Vec<String>) {
 
 /// The exported writer takes a number for a type.
 fn writer_types(lines: &mut Vec<String>) {
-    let tables = ["-", "0,1", "0,18446744073709551615", "0", "5,1", "0,1,1,1"];
+    let tables = [
+        "-",
+        "0,1,0",
+        "0,18446744073709551615,7",
+        "0",
+        "0,1",
+        "5,1,0",
+        "0,1,9,1,1,18446744073709551615",
+    ];
     for kind in [0, 1, 2, 3, 4, 255, 256, 65_535, 65_536, 1 << 32, u64::MAX] {
         for table in tables {
             lines.push(format!("typed-write {kind} 1000 0102 {table}"));
@@ -167,8 +192,8 @@ fn registers(lines: &mut Vec<String>) {
 fn caps(lines: &mut Vec<String>) {
     let area = format!("z{}", (1u64 << 32) + 1);
     for length in [(1u64 << 32) - 2, (1 << 32) - 1, 1 << 32, (1 << 32) + 1] {
-        lines.push(format!("validate 0 0 {NO_ID} {area} 0,0,0,{length}"));
-        lines.push(format!("packet-size 1 0 {NO_ID} {area} 0,{length}"));
+        lines.push(format!("validate 0 0 {NO_ID} {area} 0,0,5,0,{length},0"));
+        lines.push(format!("packet-size 1 0 {NO_ID} {area} 0,{length},1"));
         lines.push(format!("rowset-size {area} 1 0,16,0,0,{length}"));
         lines.push(format!("rowset-write 100 {area} 1 0,18,0,0,{length}"));
     }
@@ -223,7 +248,7 @@ fn lengths(lines: &mut Vec<String>) {
             lines.push(format!("plain {}{tail}", hex(&bytes)));
         }
         let area = hex(&vec![7; length + 1]);
-        let table = words(&[0, length as u64, 1, length as u64]);
+        let table = words(&part_table(&[0, length as u64, 1, length as u64]));
         lines.push(format!(
             "packet-write 0 0 {ID} {} {area} {table}",
             44 + 24 + 2 * length

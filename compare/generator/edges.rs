@@ -1,17 +1,18 @@
-//! The fixed cases: document 01's examples (`examples`), its limits on both sides, every cut of a few
+//! The fixed cases: the documents' examples (`examples`), the limits on both sides, every cut of a few
 //! inputs and every flipped bit of some. `huge` are those that cost gigabytes or minutes; no run
 //! makes them unasked.
 
 use std::io::{self, Write};
 
-use crate::packets::{NULL_SIZE, SIGNATURE, Wire, id_of};
+use crate::packets::{NULL_SIZE, PART, SIGNATURE, Wire, id_of, part_table};
 use crate::rowsets::{NULL, crossing_with};
 use crate::text::{hex, hex_or_dash, words};
 
 pub const ID: &str = "01000000020000000300000004000000";
 pub const NO_ID: &str = "00000000000000000000000000000000";
 
-/// Document 01's examples, and the vectors of the judge's self test.
+/// Document 01's examples, the vectors of the judge's self test, and document 02's examples of GUID texts that
+/// are refused (A5).
 pub fn examples() -> Vec<String> {
     let mut lines = Vec::new();
     for bytes in [
@@ -42,8 +43,34 @@ pub fn examples() -> Vec<String> {
         lines.push(format!("checksum {bytes}"));
     }
     lines.push(format!("guid-print {ID}"));
-    for text in ["4-3-2-1", "+1-2-3-4", "0-0-0"] {
-        lines.push(format!("guid-read {}", hex(text.as_bytes())));
+    for text in [
+        "4-3-2-1",
+        "+1-2-3-4",
+        "0-0-0",
+        "",
+        "-",
+        "1",
+        "1-",
+        "g",
+        "1g-",
+        "1-+2-3-4",
+        "1--2",
+        "1-2-3-",
+        "1-2-3-4-",
+        "1-2-3-4\n",
+        "1-2-3-123456789",
+        "12345678",
+        "123456789",
+        "12345678g",
+        "12345678+",
+        "12345678-",
+        "1-2-3-12345678-",
+        "1-2-3--",
+        "1-2-",
+        "1-2-3-4-5",
+        "1-2-3-4--",
+    ] {
+        lines.push(format!("guid-read {}", hex_or_dash(text.as_bytes())));
     }
     lines.push(String::from("rowset 9 9 -"));
     lines.push(format!(
@@ -71,7 +98,7 @@ pub fn examples() -> Vec<String> {
     lines.push(format!("packet 80 65536 3 {}", hex(&three)));
     lines.push(format!(
         "packet-write 0 0 {ID} 81 07 {}",
-        words(&[0, NULL, 0, 0, 0, 1])
+        words(&part_table(&[0, NULL, 0, 0, 0, 1]))
     ));
     lines
 }
@@ -186,7 +213,39 @@ fn guids(lines: &mut Vec<String>) {
     for byte in 0..=255u8 {
         lines.push(format!("guid-read 302d302d302d{byte:02x}"));
         lines.push(format!("guid-read {byte:02x}312d302d302d30"));
+        lines.push(format!("guid-read 302d3132333435363738{byte:02x}"));
     }
+    for text in places() {
+        lines.push(format!("guid-read {}", hex_or_dash(&text)));
+    }
+}
+
+/// Texts around each place where a GUID's text can go wrong: all short ones of a few pieces, and whole ones
+/// cut, or with one byte taken out, put in or put for another.
+fn places() -> Vec<Vec<u8>> {
+    let pieces: [&[u8]; 5] = [b"1", b"12345678", b"-", b"+", b"g"];
+    let mut texts = Vec::new();
+    let mut last = vec![Vec::new()];
+    for _ in 0..4 {
+        last = last
+            .iter()
+            .flat_map(|text: &Vec<u8>| pieces.map(|piece| [text, piece].concat()))
+            .collect();
+        texts.extend_from_slice(&last);
+    }
+    let wholes: [&[u8]; 2] = [b"1-2-3-4", b"12345678-9abcdef0-ABCDEF01-23456789"];
+    for whole in wholes {
+        for at in 0..=whole.len() {
+            let (before, rest) = whole.split_at(at);
+            texts.push(before.to_vec());
+            for byte in b"-0g+ \n\0\x80" {
+                texts.push([before, &[*byte], rest].concat());
+                texts.push([before, &[*byte], rest.get(1..).unwrap_or_default()].concat());
+            }
+            texts.push([before, rest.get(1..).unwrap_or_default()].concat());
+        }
+    }
+    texts
 }
 
 /// The packets of document 01's examples and some around them, sealed.
@@ -386,7 +445,7 @@ fn packet_tables(lines: &mut Vec<String>) {
     ];
     for table in tables {
         for kind in 0..3 {
-            let text = words(table);
+            let text = words(&part_table(table));
             lines.push(format!("validate {kind} 0 {ID} {area} {text}"));
             lines.push(format!("packet-size {kind} 65535 {ID} {area} {text}"));
             let payload: u64 = table
@@ -403,8 +462,11 @@ fn packet_tables(lines: &mut Vec<String>) {
         }
     }
     // A writer's 3: one part too many, by the shortest form of a table.
-    let most = 2u64 << 28;
-    lines.push(format!("packet-write 0 0 {NO_ID} 0 - z{}", most + 2));
+    let most = (PART as u64) << 28;
+    lines.push(format!(
+        "packet-write 0 0 {NO_ID} 0 - z{}",
+        most + PART as u64
+    ));
     for (size, table) in [
         (1 << 30, vec![0, 1 << 30]),
         ((1 << 30) + 1, vec![1, 1 << 30]),
@@ -419,13 +481,13 @@ fn packet_tables(lines: &mut Vec<String>) {
             vec![0, 1 << 30, 0, 1 << 30, 0, 1 << 30, 0, 1 << 30, 7, 7],
         ),
     ] {
-        let text = words(&table);
+        let text = words(&part_table(&table));
         lines.push(format!("validate 0 0 {NO_ID} z{size} {text}"));
         lines.push(format!("packet-size 1 0 {NO_ID} z{size} {text}"));
         lines.push(format!("packet-write 2 0 {NO_ID} 100 z{size} {text}"));
     }
     for count in [65_536, 65_537] {
-        let text = words(&[0, 0].repeat(count));
+        let text = words(&part_table(&[0, 0].repeat(count)));
         lines.push(format!("packet-size 0 0 {NO_ID} - {text}"));
         lines.push(format!("packet-write 0 0 {NO_ID} 1000000 - {text}"));
     }
@@ -662,17 +724,20 @@ pub fn huge(count: usize, output: &mut impl Write) -> io::Result<()> {
     let (rows, values) = (words(&rows), words(&values));
     let long: u64 = (1 << 32) + 4;
     let cases = [
-        format!("validate 0 0 {NO_ID} z{long} 0,{long}"),
-        format!("validate 0 0 {NO_ID} z{long} 0,4294967295"),
-        format!("packet-size 0 0 {NO_ID} z{long} 0,4294967296"),
+        format!("validate 0 0 {NO_ID} z{long} 0,{long},0"),
+        format!("validate 0 0 {NO_ID} z{long} 0,4294967295,0"),
+        format!("packet-size 0 0 {NO_ID} z{long} 0,4294967296,0"),
         format!("rowset-size z{long} 1 0,16,0,0,{long}"),
         format!("rowset-write 0 z{long} 1 0,16,0,0,4294967295"),
         format!("rowset-size z16777216 {rows} {values}"),
         format!("rowset-write 1073741823 z16777216 {rows} {values}"),
         String::from("crc 01 z1073741825"),
         String::from("crc 01 z1073741824 02"),
-        format!("validate 0 0 {NO_ID} - z{}", 2u64 << 28),
-        format!("validate 0 0 {NO_ID} - z{}", (2u64 << 28) + 2),
+        format!("validate 0 0 {NO_ID} - z{}", (PART as u64) << 28),
+        format!(
+            "validate 0 0 {NO_ID} - z{}",
+            ((PART as u64) << 28) + PART as u64
+        ),
     ];
     for line in cases.iter().take(count) {
         writeln!(output, "{line}")?;

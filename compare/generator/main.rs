@@ -4,11 +4,13 @@
 //! of `edges` too. Assumes nothing of either side that answers.
 
 mod corners;
+mod damaged;
 mod edges;
 mod packets;
 mod random;
 mod rowsets;
 mod seal;
+mod sums;
 #[allow(dead_code)]
 #[path = "../text.rs"]
 mod text;
@@ -22,9 +24,12 @@ use text::{hex, hex_or_dash};
 type Make = fn(&mut Random) -> String;
 
 /// Each kind with its share of a run.
-const KINDS: [(&str, u64, Make); 23] = [
+const KINDS: [(&str, u64, Make); 26] = [
     ("crc", 30, crc),
     ("checksum", 20, checksum),
+    ("fold", 10, sums::fold),
+    ("fold8", 20, sums::fold8),
+    ("combine", 15, sums::combine),
     ("guid-print", 20, guid_print),
     ("guid-read", 80, guid_read),
     ("guid-parts", 15, guid_parts),
@@ -66,6 +71,8 @@ fn main() {
         Some("drawn") => drawn(seed, count, &mut output),
         Some("examples") => fixed(edges::examples(), count, &mut output),
         Some("edges") => fixed(edges::list(), count, &mut output),
+        Some("damaged") => one_kind(seed, count, damaged::case, &mut output),
+        Some("named") => one_kind(seed, count, damaged::named, &mut output),
         Some("corners") => fixed(corners::list(), count, &mut output),
         Some("huge") => edges::huge(count, &mut output),
         Some(kind) => match KINDS.iter().find(|entry| entry.0 == kind) {
@@ -84,7 +91,7 @@ fn main() {
 fn usage() -> ! {
     let kinds: Vec<&str> = KINDS.iter().map(|entry| entry.0).collect();
     eprintln!(
-        "usage: cases SEED COUNT [KIND], where KIND is examples, edges, corners, drawn, huge or one of"
+        "usage: cases SEED COUNT [KIND], where KIND is examples, edges, corners, drawn, huge, damaged, named or one of"
     );
     eprintln!("  {}", kinds.join(" "));
     exit(2);
@@ -245,7 +252,7 @@ fn field(random: &mut Random) -> Vec<u8> {
 
 /// Lines that are no case: another kind, a word too many or too few, digits that are none.
 fn bad(random: &mut Random) -> String {
-    let (_, _, make) = KINDS[random.below(22) as usize];
+    let (_, _, make) = KINDS[random.below(KINDS.len() as u64 - 1) as usize];
     let line = make(random);
     match random.below(4) {
         0 => format!("un{line}"),

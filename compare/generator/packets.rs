@@ -283,6 +283,21 @@ pub fn read_default_live(random: &mut Random) -> String {
 
 // Writing.
 
+/// The words of a part in a table: offset, length, and the stored checksum, which a writer does not read.
+pub const PART: usize = 3;
+
+/// A table of parts from offsets and lengths, with a third word behind each two; a word left over stays.
+pub fn part_table(pairs: &[u64]) -> Vec<u64> {
+    let mut words = Vec::new();
+    for pair in pairs.chunks(2) {
+        words.extend_from_slice(pair);
+        if let [offset, length] = pair {
+            words.push(offset.rotate_left(7) ^ length.wrapping_mul(0x9e37_79b9_7f4a_7c15));
+        }
+    }
+    words
+}
+
 /// An area, its size and a table of parts over it.
 struct Table {
     area: String,
@@ -313,6 +328,7 @@ fn table(random: &mut Random) -> Table {
         let (offset, length) = entry(random, size);
         words.push(offset);
         words.push(length);
+        words.push(random.word());
     }
     if random.once_in(5) {
         spoil(random, &mut words, size);
@@ -336,10 +352,12 @@ fn entry(random: &mut Random, size: u64) -> (u64, u64) {
 /// Breaks a rule of refusal 18, or comes close.
 fn spoil(random: &mut Random, words: &mut Vec<u64>, size: u64) {
     if random.once_in(4) || words.is_empty() {
-        words.push(random.edge());
+        for _ in 0..1 + random.below(PART as u64 - 1) {
+            words.push(random.edge());
+        }
         return;
     }
-    let at = 2 * random.below(words.len() as u64 / 2) as usize;
+    let at = PART * random.below((words.len() / PART) as u64) as usize;
     let (offset, length) = match random.below(9) {
         0 => (1, u64::MAX),
         1 => (u64::MAX, u64::MAX),
@@ -364,11 +382,11 @@ fn spoil(random: &mut Random, words: &mut Vec<u64>, size: u64) {
 /// Parts at the largest size that a packet may carry.
 fn large(random: &mut Random) -> Table {
     let size = LARGEST + random.below(2);
-    let mut words = Vec::new();
+    let mut pairs = Vec::new();
     for _ in 0..random.small(4) {
-        words.extend_from_slice(&[random.below(100), random.below(100)]);
+        pairs.extend_from_slice(&[random.below(100), random.below(100)]);
     }
-    words.extend_from_slice(&match random.below(4) {
+    pairs.extend_from_slice(&match random.below(4) {
         0 => [0, LARGEST],
         1 => [1, LARGEST],
         2 => [0, LARGEST + 1],
@@ -376,7 +394,7 @@ fn large(random: &mut Random) -> Table {
     });
     Table {
         area: format!("z{size}"),
-        words,
+        words: part_table(&pairs),
     }
 }
 
@@ -386,10 +404,10 @@ fn measure(kind: u64, words: &[u64]) -> u64 {
         return 36;
     }
     let lengths = words
-        .chunks_exact(2)
+        .chunks_exact(PART)
         .map(|entry| if entry[1] == u64::MAX { 0 } else { entry[1] });
     let parts = lengths.fold(0, u64::saturating_add);
-    parts.saturating_add(44 + 12 * (words.len() as u64 / 2))
+    parts.saturating_add(44 + 12 * (words.len() / PART) as u64)
 }
 
 fn head(random: &mut Random) -> (u64, String) {
@@ -460,7 +478,7 @@ pub fn part(random: &mut Random) -> String {
             break table;
         }
     };
-    let count = table.words.len() as u64 / 2;
+    let count = (table.words.len() / PART) as u64;
     let index = match random.below(8) {
         0 => random.edge(),
         1 => count,

@@ -13,10 +13,10 @@ extern "C" {
 
 /* The version of this interface. The function's name carries it, and every file that includes this header refers to the
  * function: an archive of another version does not link. */
-#define CABLEFINCH_FACE 3
-uint64_t cablefinch_face_3(void);
+#define CABLEFINCH_FACE 4
+uint64_t cablefinch_face_4(void);
 #if defined(__GNUC__)
-static uint64_t (*const cablefinch_face_linked)(void) __attribute__((used)) = cablefinch_face_3;
+static uint64_t (*const cablefinch_face_linked)(void) __attribute__((used)) = cablefinch_face_4;
 #endif
 
 /* Answers. */
@@ -51,10 +51,19 @@ enum {
     CABLEFINCH_ROWSET_TOO_LARGE = 13,         /* the size with which the limit is first passed */
     CABLEFINCH_UNKNOWN_VALUE_TYPE = 14,       /* the type found */
     CABLEFINCH_TRAILING_BYTES = 15,           /* how many bytes follow the last row */
-    CABLEFINCH_BAD_GUID = 16,                 /* nothing */
+    CABLEFINCH_BAD_GUID = 16,                 /* where the text goes wrong, why (below) */
     CABLEFINCH_NO_ROOM = 17,                  /* which table (below), how much is needed, how much was given */
     CABLEFINCH_BAD_TABLE = 18,                /* which rule (below), where */
     CABLEFINCH_RETIRED_TYPE = 24              /* the type found; in live mode alone */
+};
+
+/* The second value of CABLEFINCH_BAD_GUID. The first is the first byte at which no GUID's text could go on so, counted
+ * from 0, or the text's length where it merely ends too soon; it is at most CABLEFINCH_GUID_TEXT_BYTES. */
+enum {
+    CABLEFINCH_GUID_EMPTY = 1,      /* a field has no byte */
+    CABLEFINCH_GUID_TOO_LONG = 2,   /* a field has more than eight */
+    CABLEFINCH_GUID_NOT_HEX = 3,    /* a byte is not a hex digit */
+    CABLEFINCH_GUID_FIELD_COUNT = 4 /* the fields are not four */
 };
 
 /* The first value of CABLEFINCH_NO_ROOM. It is answered only where everything else passes. Parts, rows and values
@@ -79,7 +88,7 @@ enum {
 #define CABLEFINCH_MAX_VALUE_LENGTH UINT64_C(16777216)
 #define CABLEFINCH_MAX_ROWSET_SIZE (UINT64_C(1) << 30)
 #define CABLEFINCH_NULL UINT64_MAX  /* the length of a null part, the count of a null row */
-#define CABLEFINCH_PART_WORDS 2     /* the words of a part's entry: offset, length */
+#define CABLEFINCH_PART_WORDS 3     /* the words of a part's entry: offset, length, stored checksum */
 #define CABLEFINCH_VALUE_WORDS 5    /* the words of a value's entry, below */
 #define CABLEFINCH_GUID_BYTES 16
 #define CABLEFINCH_GUID_TEXT_BYTES 35 /* the longest text of a GUID */
@@ -112,6 +121,13 @@ uint64_t cablefinch_checksum(const uint8_t *bytes, size_t n);
  * register is no checksum itself. */
 uint64_t cablefinch_update(uint64_t reg, const uint8_t *bytes, size_t n);
 uint64_t cablefinch_finish(uint64_t reg);
+/* The two engines, callable by name: the checksum's register, not byte-swapped, after some more bytes. From 0 both give
+ * the checksum. cablefinch_fold takes a byte at a step, cablefinch_fold8 eight, each over tables that it lays out first.
+ * The functions above take eight at a step over tables that lie in the program, and are faster at every length. */
+uint64_t cablefinch_fold(uint64_t reg, const uint8_t *bytes, size_t n);
+uint64_t cablefinch_fold8(uint64_t reg, const uint8_t *bytes, size_t n);
+/* The checksum of two stretches joined, from their checksums and the second one's length in bytes. */
+uint64_t cablefinch_combine(uint64_t first, uint64_t second, uint64_t length);
 
 /* GUIDs. An id is its CABLEFINCH_GUID_BYTES wire bytes; where fewer are given, the missing ones count as 0. */
 
@@ -123,7 +139,8 @@ cablefinch_outcome *cablefinch_guid_from_halves(cablefinch_outcome *o, uint64_t 
 /* Writes the id's text; count: its bytes, at most CABLEFINCH_GUID_TEXT_BYTES. No zero byte is written behind it. */
 cablefinch_outcome *cablefinch_guid_print(cablefinch_outcome *o, const uint8_t *id, size_t n, uint8_t *out,
         size_t room);
-/* Reads an id's text; values: the four words. */
+/* Reads an id's text, four fields of 1 to 8 hex digits with dashes between; values: the four words. Any other text is
+ * refused with CABLEFINCH_BAD_GUID, which tells where and why. */
 cablefinch_outcome *cablefinch_guid_parse(cablefinch_outcome *o, const uint8_t *text, size_t n);
 /* values: the four words. */
 cablefinch_outcome *cablefinch_guid_parts(cablefinch_outcome *o, const uint8_t *id, size_t n);
@@ -132,8 +149,9 @@ cablefinch_outcome *cablefinch_guid_halves(cablefinch_outcome *o, const uint8_t 
 /* Whether all bytes are 0. */
 bool cablefinch_guid_is_null(const uint8_t *id, size_t n);
 
-/* Packets. A part table has CABLEFINCH_PART_WORDS words for each part: where it begins and how long it is; a null
- * part is 0 and CABLEFINCH_NULL. `words` counts the table's words. Offsets count from the start of the input that
+/* Packets. A part table has CABLEFINCH_PART_WORDS words for each part: where it begins, how long it is, and the
+ * checksum word that the packet has for it; a null part is 0, CABLEFINCH_NULL and its word. A part whose word is 0 was
+ * not verified. The writer does not read the third word: it computes checksums. `words` counts the table's words. Offsets count from the start of the input that
  * was read, or of the area that is written from. */
 
 /* Reads the packet at the front of the input into the part table. count: the bytes it takes; after
@@ -197,8 +215,8 @@ cablefinch_outcome *cablefinch_rowset_size(cablefinch_outcome *o, const uint8_t 
 /* Reads the one value that begins at `at`; values: the words of its entry; count: where the next value begins. */
 cablefinch_outcome *cablefinch_read_value(cablefinch_outcome *o, const uint8_t *input, size_t n, size_t at);
 /* Whether the input is a rowset in the one form that is written: flags and booleans 0 or 1, the length words of
- * scalars 0, padding zero, at most CABLEFINCH_MAX_ROWSET_SIZE bytes. The length word of a Null value is not looked
- * at. */
+ * scalars and of Null 0, padding zero, at most CABLEFINCH_MAX_ROWSET_SIZE bytes. Two such inputs with the same rows
+ * are the same bytes. */
 bool cablefinch_is_plain(const uint8_t *input, size_t n);
 
 #ifdef __cplusplus

@@ -1,5 +1,9 @@
 //! GUIDs: sixteen bytes, four little-endian words, printed from the last word to the first.
 
+mod error;
+
+pub use error::{ParseGuidError, Reason};
+
 use crate::sys;
 use std::collections::hash_map::RandomState;
 use std::fmt;
@@ -88,11 +92,12 @@ impl Guid {
         sys::guid_is_null(&self.0)
     }
 
-    /// Reads a GUID's text from bytes that may be anything.
+    /// Reads a GUID's text from bytes that may be anything: four fields of 1 to 8 hex digits with dashes
+    /// between, of either case, leading zeros allowed, and no plus, which the original takes.
     pub fn from_text(text: &[u8]) -> Result<Self, ParseGuidError> {
         let outcome = sys::guid_parse(text);
         if outcome.kind != sys::ACCEPTED {
-            return Err(ParseGuidError);
+            return Err(ParseGuidError::of(&outcome, text));
         }
         let [a, b, c, d, ..] = outcome.values;
         Ok(Self::from_parts([a, b, c, d].map(low)))
@@ -131,25 +136,6 @@ impl From<[u8; 16]> for Guid {
         Self(bytes)
     }
 }
-
-/// A text that is not four hexadecimal words with dashes between.
-#[derive(Debug, Clone, Copy, PartialEq, Eq)]
-pub struct ParseGuidError;
-
-impl ParseGuidError {
-    /// The refusal's number, 16.
-    pub const fn code(&self) -> u32 {
-        16
-    }
-}
-
-impl fmt::Display for ParseGuidError {
-    fn fmt(&self, formatter: &mut fmt::Formatter<'_>) -> fmt::Result {
-        formatter.write_str("expected a GUID of the form a-b-c-d, in hexadecimal")
-    }
-}
-
-impl std::error::Error for ParseGuidError {}
 
 #[cfg(test)]
 mod tests {
@@ -215,20 +201,18 @@ mod tests {
 
     #[test]
     fn odd_texts() {
-        assert_eq!("+1-2-3-4".parse(), Ok(Guid::from_parts([4, 3, 2, 1])));
+        let id = Guid::from_parts([0xf, 0xa, 0, 0xabcd_ef01]);
+        assert_eq!("ABCDEF01-0-A-0000000f".parse(), Ok(id));
+        assert_eq!("abcdef01-00-a-F".parse(), Ok(id));
         for text in [
-            "",
-            "0-0-0",
-            "0-0-0-0-0",
-            "g-0-0-0",
             "123456789-0-0-0",
             "+-0-0-0",
+            "+1-2-3-4",
             "ä-0-0-0",
+            " 1-2-3-4",
         ] {
-            let error = text.parse::<Guid>();
-            assert_eq!(error, Err(ParseGuidError));
-            assert_eq!(ParseGuidError.code(), 16);
+            assert!(text.parse::<Guid>().is_err(), "{text}");
         }
-        assert_eq!(Guid::from_text(b"\xff-0-0-0"), Err(ParseGuidError));
+        assert!(Guid::from_text(b"\xff-0-0-0").is_err());
     }
 }

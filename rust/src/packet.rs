@@ -45,15 +45,15 @@ pub const DEFAULT_MAX_PART_COUNT: u32 = 1 << 16;
 /// The length word of a null part in a table.
 const NULL: u64 = u64::MAX;
 
-/// The words of a part in a table. [`entry`] and [`range`] alone say what they are.
-const WIDTH: usize = 2;
+/// The words of a part in a table. [`entry`], [`range`] and [`guard`] alone say what they are.
+const WIDTH: usize = 3;
 
 /// The table's words for a part that begins at `offset` and has `length` bytes, none where it is
 /// null.
 fn entry(offset: usize, length: Option<usize>) -> [u64; WIDTH] {
     match length {
-        None => [0, NULL],
-        Some(length) => [offset as u64, length as u64],
+        None => [0, NULL, 0],
+        Some(length) => [offset as u64, length as u64, 0],
     }
 }
 
@@ -66,6 +66,16 @@ fn range(words: &[u64]) -> Option<Range<usize>> {
             Some(start..start.saturating_add(count(length)))
         }
         _ => Some(0..0),
+    }
+}
+
+/// Whether a part came with a checksum, by a table's words; none where it is null.
+fn guard(words: &[u64]) -> Option<Guard> {
+    match *words {
+        [0, NULL, ..] => None,
+        [_, _, 0] => Some(Guard::Bare),
+        [_, _, sum] => Some(Guard::Guarded(sum)),
+        _ => None,
     }
 }
 
@@ -85,6 +95,16 @@ pub enum Mode {
     /// A live peer: [`PacketType::SslAck`] is refused, [`PacketError::RetiredType`], since encryption
     /// ends at the gateway.
     Live = 1,
+}
+
+/// Whether a part that was read came with a checksum.
+#[derive(Debug, Clone, Copy, PartialEq, Eq, Hash)]
+pub enum Guard {
+    /// The packet has this checksum for it, and its bytes were verified against it.
+    Guarded(u64),
+    /// The packet has 0 in that place. Nothing was verified: the sender stored no checksum, or the
+    /// bytes' own checksum is 0, as that of an empty part is.
+    Bare,
 }
 
 /// What a packet is.
@@ -181,6 +201,18 @@ impl<'a> Parts<'a> {
             }
             Repr::Lent(list) => list.get(index).copied(),
             Repr::Owned(list) => list.get(index).copied(),
+        }
+    }
+
+    /// Whether part `index` came with a checksum. `None` where there is no such part, where it is null
+    /// (a null part has no bytes to guard), and for parts that were not read from a packet.
+    pub fn guard(&self, index: usize) -> Option<Guard> {
+        match &self.0 {
+            Repr::Table { words, .. } => {
+                let at = index.checked_mul(WIDTH)?;
+                guard(words.get(at..at.checked_add(WIDTH)?)?)
+            }
+            Repr::Lent(_) | Repr::Owned(_) => None,
         }
     }
 

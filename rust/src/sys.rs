@@ -31,10 +31,13 @@ pub(crate) const MORE: u64 = 1;
 mod raw {
     use super::Outcome;
     unsafe extern "C" {
-        pub(super) fn cablefinch_face_3() -> u64;
+        pub(super) fn cablefinch_face_4() -> u64;
         pub(super) fn cablefinch_checksum(bytes: *const u8, n: usize) -> u64;
         pub(super) fn cablefinch_update(register: u64, bytes: *const u8, n: usize) -> u64;
         pub(super) fn cablefinch_finish(register: u64) -> u64;
+        pub(super) fn cablefinch_fold(register: u64, bytes: *const u8, n: usize) -> u64;
+        pub(super) fn cablefinch_fold8(register: u64, bytes: *const u8, n: usize) -> u64;
+        pub(super) fn cablefinch_combine(first: u64, second: u64, length: u64) -> u64;
         pub(super) fn cablefinch_guid_from_parts(o: *mut Outcome, w0: u32, w1: u32, w2: u32, w3: u32, out: *mut u8, room: usize) -> *mut Outcome;
         pub(super) fn cablefinch_guid_from_halves(o: *mut Outcome, first: u64, second: u64, out: *mut u8, room: usize) -> *mut Outcome;
         pub(super) fn cablefinch_guid_print(o: *mut Outcome, id: *const u8, n: usize, out: *mut u8, room: usize) -> *mut Outcome;
@@ -82,7 +85,7 @@ macro_rules! ask {
 /// Named by every program over this crate, called by none: an archive of another version of the
 /// interface lacks the function, so that the program does not link.
 #[used]
-static VERSION: unsafe extern "C" fn() -> u64 = raw::cablefinch_face_3;
+static VERSION: unsafe extern "C" fn() -> u64 = raw::cablefinch_face_4;
 
 pub(crate) fn checksum(bytes: &[u8]) -> u64 {
     // SAFETY: a slice's pointer and length, only read.
@@ -97,6 +100,21 @@ pub(crate) fn update(register: u64, bytes: &[u8]) -> u64 {
 pub(crate) fn finish(register: u64) -> u64 {
     // SAFETY: a number; any register has an answer.
     unsafe { raw::cablefinch_finish(register) }
+}
+
+pub(crate) fn fold(register: u64, bytes: &[u8]) -> u64 {
+    // SAFETY: a slice's pointer and length, only read; any register has an answer.
+    unsafe { raw::cablefinch_fold(register, bytes.as_ptr(), bytes.len()) }
+}
+
+pub(crate) fn fold8(register: u64, bytes: &[u8]) -> u64 {
+    // SAFETY: a slice's pointer and length, only read; any register has an answer.
+    unsafe { raw::cablefinch_fold8(register, bytes.as_ptr(), bytes.len()) }
+}
+
+pub(crate) fn combine(first: u64, second: u64, length: u64) -> u64 {
+    // SAFETY: three numbers; all have an answer.
+    unsafe { raw::cablefinch_combine(first, second, length) }
 }
 
 pub(crate) fn guid_from_parts(parts: [u32; 4], out: &mut [u8]) -> Outcome {

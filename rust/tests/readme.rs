@@ -1,6 +1,6 @@
 //! The code of both READMEs, which is the file `readme/service.rs`, run over the samples.
 
-use cablefinch::packet::{self, Refusal};
+use cablefinch::packet::{self, Guard, Refusal};
 use std::error::Error;
 use std::io::{self, Read};
 
@@ -28,9 +28,12 @@ fn heard(input: &[u8], step: usize) -> (Vec<String>, Result<(), Box<dyn Error>>)
             packet.parts.len()
         ));
         for (index, part) in packet.parts.iter().enumerate() {
-            lines.push(match part {
-                None => format!("part {index} null"),
-                Some(part) => format!("part {index} {}", part.len()),
+            lines.push(match (part, packet.parts.guard(index)) {
+                (None, _) => format!("part {index} null"),
+                (Some(part), Some(Guard::Guarded(_))) => {
+                    format!("part {index} {} guarded", part.len())
+                }
+                (Some(part), _) => format!("part {index} {} bare", part.len()),
             });
         }
         Ok(())

@@ -1,5 +1,6 @@
 //! The repository's samples: what is read of each is what its text says, in the lines of `list`.
 
+use cablefinch::packet::Guard;
 use cablefinch::{packet, wire};
 use std::fmt::Write as _;
 
@@ -20,9 +21,12 @@ fn listing(input: &[u8]) -> String {
                 let count = packet.parts.len();
                 let _ = writeln!(text, "packet {offset} {kind} {flags} {} {count}", packet.id);
                 for (index, part) in packet.parts.iter().enumerate() {
-                    let _ = match part {
-                        None => writeln!(text, "part {index} null"),
-                        Some(part) => writeln!(text, "part {index} {}", part.len()),
+                    let _ = match (part, packet.parts.guard(index)) {
+                        (None, _) => writeln!(text, "part {index} null"),
+                        (Some(part), Some(Guard::Guarded(_))) => {
+                            writeln!(text, "part {index} {} guarded", part.len())
+                        }
+                        (Some(part), _) => writeln!(text, "part {index} {} bare", part.len()),
                     };
                 }
                 offset += decoded.consumed;

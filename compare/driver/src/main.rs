@@ -12,11 +12,13 @@ mod text;
 use face::Outcome;
 use std::fmt::Write as _;
 use std::io;
-use text::{BadCase, answer_lines, hex_or_dash, narrow, number, read_id, read_words, words};
+use text::{
+    BadCase, answer_lines, hex_or_dash, narrow, number, read_id, read_register, read_words, words,
+};
 
 const NULL: u64 = u64::MAX;
 /// The words of a part and of a value in a table.
-const PART: u64 = 2;
+const PART: u64 = 3;
 const VALUE: u64 = 5;
 /// The modes by the numbers of `face.h`.
 const ARCHIVE: u64 = 0;
@@ -39,6 +41,17 @@ fn answer(line: &[u8]) -> Answer {
         (b"update", [register, bytes]) => {
             let register = face::update(number(register)?, &read_bytes(bytes)?);
             Ok(format!("ok {register:016x}"))
+        }
+        (b"fold", [register, stretches @ ..]) if !stretches.is_empty() => {
+            folded(face::fold, read_register(register)?, stretches)
+        }
+        (b"fold8", [register, stretches @ ..]) if !stretches.is_empty() => {
+            folded(face::fold8, read_register(register)?, stretches)
+        }
+        (b"combine", [first, second, length]) => {
+            let (first, second) = (read_register(first)?, read_register(second)?);
+            let whole = face::combine(first, second, number(length)?);
+            Ok(format!("ok {whole:016x}"))
         }
         (b"guid-print", [id]) => guid_print(&read_id(id)?),
         (b"guid-text", [id, room]) => guid_text(&read_id(id)?, number(room)?),
@@ -208,7 +221,7 @@ fn table(words: u64, most: usize) -> Vec<u64> {
 fn carried(number: u64) -> usize {
     match number {
         1 | 2 | 3 | 10 | 12 | 13 | 14 | 15 | 24 => 1,
-        4 | 5 | 6 | 8 | 9 | 11 | 18 => 2,
+        4 | 5 | 6 | 8 | 9 | 11 | 16 | 18 => 2,
         7 | 17 => 3,
         _ => 0,
     }
@@ -262,6 +275,29 @@ fn crc(stretches: &[&[u8]]) -> Answer {
         register = face::update(register, &read_bytes(stretch)?);
     }
     Ok(format!("ok {:016x}", face::finish(register)))
+}
+
+/// An engine over stretches in order. Short ones lie at each address there is by eight in turn; where
+/// one gives another register, the line tells so.
+fn folded(engine: fn(u64, &[u8]) -> u64, register: u64, stretches: &[&[u8]]) -> Answer {
+    let mut after = register;
+    for stretch in stretches {
+        let bytes = text::read_bytes(stretch)?;
+        let before = after;
+        after = engine(before, &bytes);
+        if bytes.len() > MOVED {
+            continue;
+        }
+        let mut memory = vec![FILL; bytes.len() + 8];
+        for start in 0..8 {
+            let place = &mut memory[start..start + bytes.len()];
+            place.copy_from_slice(&bytes);
+            if engine(before, place) != after {
+                return Ok(format!("other register at {start}"));
+            }
+        }
+    }
+    Ok(format!("ok {after:016x}"))
 }
 
 fn guid_print(id: &[u8]) -> Answer {
@@ -360,12 +396,10 @@ fn packet(mode: u64, limit: u64, ceiling: Option<u32>, room: u64, input: &[u8]) 
     let mut text = format!("ok {} {kind} {flags} {id} {count}", outcome.count);
     let (entries, rest) = parts.split_at((PART * count) as usize);
     for entry in entries.chunks_exact(PART as usize) {
-        match entry {
-            [0, NULL] => text.push_str(" null"),
-            entry => {
-                let _ = write!(text, " {}+{}", entry[0], entry[1]);
-            }
-        }
+        let _ = match entry {
+            [0, NULL, sum] => write!(text, " null:{sum}"),
+            entry => write!(text, " {}+{}:{}", entry[0], entry[1], entry[2]),
+        };
     }
     Ok(mark(text, words_kept(rest)))
 }

@@ -2,7 +2,7 @@
 //! a line, and one answer line for each. The Rust is called and its results are written down; no
 //! answer is worked out here. Where the Rust has none (short room, a table that breaks a rule, the
 //! plain-form check, text that is no UTF-8, a start past the end, type 2 in live mode), the answer is
-//! `skip`.
+//! `skip`; where document 02 departs from the Rust, `excepted`.
 
 #[allow(dead_code)]
 #[path = "../../text.rs"]
@@ -17,16 +17,19 @@ use oracle::crc64::{self, Crc64};
 use oracle::guid::Guid;
 use oracle::wire::{self, MaybeRow, UnversionedValue, Value, ValueType, WireError};
 use text::{
-    BadCase, answer_lines, commas, hex_or_dash, narrow, number, read_bytes, read_id, read_words,
-    words, zeros,
+    BadCase, answer_lines, commas, hex_or_dash, narrow, number, read_bytes, read_id, read_register,
+    read_words, words, zeros,
 };
 
 const NULL: u64 = u64::MAX;
+/// The words of a part in a table.
+const PART: usize = 3;
 
-/// Why a case got no answer: it is no case, or the Rust has none.
+/// Why a case got no answer: it is no case, the Rust has none, or its answer does not count.
 enum Without {
     BadCase,
     Skip,
+    Excepted,
 }
 
 type Outcome = Result<String, Without>;
@@ -37,6 +40,7 @@ fn main() -> io::Result<()> {
             Ok(Ok(text)) => text,
             Ok(Err(Without::BadCase)) => "bad case".to_string(),
             Ok(Err(Without::Skip)) => "skip".to_string(),
+            Ok(Err(Without::Excepted)) => "excepted".to_string(),
             Err(_) => "panicked".to_string(),
         },
     )
@@ -99,6 +103,24 @@ fn answer(line: &[u8]) -> Outcome {
         (b"update", [register, bytes]) => {
             number(register)?;
             read_bytes(bytes)?;
+            Err(Without::Skip)
+        }
+        // The Rust has one engine, and it begins at 0.
+        (b"fold" | b"fold8", [register, stretches @ ..]) if !stretches.is_empty() => {
+            match read_register(register)? {
+                0 => crc(stretches),
+                _ => {
+                    for stretch in stretches {
+                        read_bytes(stretch)?;
+                    }
+                    Err(Without::Skip)
+                }
+            }
+        }
+        (b"combine", [first, second, length]) => {
+            read_register(first)?;
+            read_register(second)?;
+            number(length)?;
             Err(Without::Skip)
         }
         (b"guid-text" | b"guid-bytes", [id, room]) => {
@@ -166,12 +188,15 @@ fn crc(stretches: &[&[u8]]) -> Outcome {
     Ok(format!("ok {:016x}", register.finish()))
 }
 
+/// The Rust's refusal has neither place nor reason. A text that it takes although a field begins with a plus
+/// is excepted: A5 refuses it.
 fn guid_read(text: &[u8]) -> Outcome {
     let text = std::str::from_utf8(text).map_err(|_| Without::Skip)?;
-    Ok(match text.parse::<Guid>() {
-        Ok(guid) => format!("ok {}", hex_or_dash(&guid.0)),
-        Err(_) => refused(16, None, &[]),
-    })
+    match text.parse::<Guid>() {
+        Ok(_) if text.split('-').any(|field| field.starts_with('+')) => Err(Without::Excepted),
+        Ok(guid) => Ok(format!("ok {}", hex_or_dash(&guid.0))),
+        Err(_) => Ok(format!("{} ..", refused(16, None, &[]))),
+    }
 }
 
 fn guid_parts(guid: Guid) -> Outcome {
@@ -232,15 +257,17 @@ fn packet_read(live: bool, limit: u64, ceiling: Option<u32>, room: u64, bytes: &
     if count as u64 > room {
         return Err(Without::Skip);
     }
+    let sums = stored(&read_bytes(bytes)?, count);
     let mut text = format!(
         "ok {consumed} {} {} {} {count}",
         packet.packet_type as u16,
         packet.flags.0,
         hex_or_dash(&packet.id.0)
     );
-    // An empty part has no address: it stands where the one before it ends.
+    // An empty part has no address: it stands where the one before it ends. The Rust does not tell the
+    // stored checksum words, so they are taken from the input, which has them behind the sizes.
     let mut place = 44 + 12 * count;
-    for part in &packet.parts {
+    for (part, sum) in packet.parts.iter().zip(sums) {
         match part {
             None => text.push_str(" null"),
             Some(bytes) => {
@@ -251,8 +278,18 @@ fn packet_read(live: bool, limit: u64, ceiling: Option<u32>, room: u64, bytes: &
                 place += bytes.len();
             }
         }
+        text.push_str(&format!(":{sum}"));
     }
     Ok(text)
+}
+
+/// The checksum words of the parts, as they are stored in a packet of so many that was read.
+fn stored(input: &[u8], count: usize) -> Vec<u64> {
+    let words = input.get(36 + 4 * count..).unwrap_or_default();
+    let words = words.chunks_exact(8).take(count);
+    words
+        .map(|word| u64::from_le_bytes(word.try_into().expect("eight bytes")))
+        .collect()
 }
 
 /// The packet that a case describes; `skip` where its table breaks a rule, and for type 2 in live mode.
@@ -291,19 +328,22 @@ fn parts_of(area: &Bytes, text: &[u8]) -> Result<Vec<Option<Bytes>>, Without> {
         return Ok(Vec::new());
     }
     if let Some(count) = zeros(text)? {
-        return match count % 2 {
-            0 => Ok(vec![Some(stretch(area, 0, 0)?); count / 2]),
+        return match count % PART {
+            0 => Ok(vec![Some(stretch(area, 0, 0)?); count / PART]),
             _ => Err(Without::Skip),
         };
     }
     let mut words = text.split(|&byte| byte == b',').map(number);
-    let mut parts = Vec::with_capacity((1 + commas(text)) / 2);
+    let mut parts = Vec::with_capacity((1 + commas(text)) / PART);
     let mut kept = true;
     while let Some(offset) = words.next() {
         let offset = offset?;
-        let part = match words.next() {
-            Some(length) => part_of(area, offset, length?),
-            None => Err(Without::Skip),
+        let length = words.next().transpose()?;
+        // The third word is the stored checksum, which a writer does not read.
+        let sum = words.next().transpose()?;
+        let part = match (length, sum) {
+            (Some(length), Some(_)) => part_of(area, offset, length),
+            _ => Err(Without::Skip),
         };
         // A word that is no number, further on, still makes the line no case.
         match part {
@@ -350,7 +390,7 @@ fn part(index: u64, bytes: &[u8], parts: &[u8]) -> Outcome {
     let input = Bytes::from(read_bytes(bytes)?);
     let words = read_words(parts)?;
     let Some(entry) = words
-        .chunks_exact(2)
+        .chunks_exact(PART)
         .nth(index.min(usize::MAX as u64) as usize)
     else {
         return Err(Without::Skip);

@@ -1,23 +1,13 @@
-// The checksum as callers take it: the engine follows from how many bytes there are. What a checksum is stands in
-// crc64's specs/Polynomial.antt. The register is held byte-swapped, as the engines work, and `finish` swaps it back.
+// The checksum as callers take it, by the engine that lays nothing out. What a checksum is stands in crc64's
+// specs/Polynomial.antt. The register is held byte-swapped, as the engines work, and `finish` swaps it back.
 ghost use Rattle.checksum.specs.Statement.{UpdatedIs, NewIs, UpdateIs, ChainIs, AppendIs, FinishIs};
 ghost use Rattle.crc64.specs.Statement.{ChecksumIs};
 
-// From this many bytes on the eight tables are worth laying out. Each call lays its own, since a constant has no place in
-// memory: 2,048 numbers take about 240 ns longer than 256, and a byte over them takes a quarter of the time.
-pub const EIGHT_FROM: usize = 144;
-
-// The register, held byte-swapped, after the bytes: by the plain engine where they are few, eight at a step where they
-// are many.
+// The register, held byte-swapped, after the bytes.
 pub fn updated(register: u64, bytes: &[u8]) -> u64
     ensures { λ r. ⌜ UpdatedIs register (now (bytes .entry)) r ⌝ }
 {
-    if bytes.len() < EIGHT_FROM {
-        let table = crc64::table();
-        return crc64::fold_over(&table, register, bytes);
-    }
-    let tables = crc64_eight::tables();
-    crc64_eight::fold_lent(&tables[..], register, bytes)
+    crc64_fast::fold_held(register, bytes)
 }
 
 // The checksum of a byte string.

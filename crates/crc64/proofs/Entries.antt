@@ -9,7 +9,7 @@ use lib.Arith.{digits-div, digits-mod}
 use lib.Pow.{shl-lt, shr-lt, split}
 use lib.Bits.{bitXor, xor-mod, xor-lt, xor-comm, xor-shifted}
 use Rattle.words.specs.Word.{Bytes}
-use Rattle.crc64.specs.Polynomial.{steps, foldByte, fold, checksum}
+use Rattle.crc64.specs.Polynomial.{steps, foldByte, fold}
 use Rattle.crc64.specs.Table.{swapped, entry, entriesFrom, entries, turn, foldOver}
 use Rattle.crc64.proofs.Xor.{xor-assoc, xor-shl}
 use Rattle.crc64.proofs.Register.{steps-xor, steps-shift}
@@ -99,15 +99,7 @@ fold-over-held r bs hr hs =
     ap (λ (x : ℕ). foldOver (entries 8) x bs) (sym (swapped-twice 8 r hr))
     ∙ fold-over-true (swapped 8 r) bs (swapped-lt 8 r) hs
 
-pub checksum-over-true : (bs : List ℕ) → Bytes bs → swapped 8 (foldOver (entries 8) 0 bs) ≡ checksum bs
-unfolding swapped
-checksum-over-true bs hs =
-    ap (swapped 8) (fold-over-true 0 bs (lit< tt) hs) ∙ swapped-twice 8 (fold 0 bs) (fold-lt 0 bs (lit< tt))
-
--- the same for a caller that bound the table once and lends it
-pub checksum-over-is : {t : List ℕ} {z : ℕ} (bs : List ℕ) → t ≡ entries 8 → z ≡ swapped 8 (foldOver t 0 bs) → Bytes bs → z ≡ checksum bs
-checksum-over-is bs known e hs = e ∙ ap (λ (t : List ℕ). swapped 8 (foldOver t 0 bs)) known ∙ checksum-over-true bs hs
-
+-- the same for a caller that bound the table once
 pub fold-over-is : {t : List ℕ} {z : ℕ} (r : ℕ) (bs : List ℕ) → t ≡ entries 8 → z ≡ foldOver t r bs → r < 2 ^ 64 → Bytes bs → z ≡ swapped 8 (fold (swapped 8 r) bs)
 fold-over-is r bs known e hr hs = e ∙ ap (λ (t : List ℕ). foldOver t r bs) known ∙ fold-over-held r bs hr hs
 

@@ -7,5 +7,4 @@ pub mod Burst
 pub mod Swap
 pub mod Entries
 pub mod Loop
-pub mod Stretches
 pub mod Unique

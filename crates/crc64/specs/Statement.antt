@@ -3,7 +3,6 @@
 use Prim.Native.Nat.{ℕ}
 use mathlib.Core.Path.{_≡_}
 use mathlib.Core.List.{List}
-use Rattle.crc64.specs.declared.Crc64.{Crc64}
 use Rattle.crc64.specs.Polynomial.{fold, checksum}
 use Rattle.crc64.specs.Table.{swapped, entries, foldOver}
 
@@ -22,22 +21,6 @@ FoldIs register bytes r = r ≡ fold register bytes
 abbrev pub SwapIs : ℕ → ℕ → Type 0
 SwapIs x r = r ≡ swapped 8 x
 
-abbrev pub ChecksumOverIs : List ℕ → List ℕ → ℕ → Type 0
-ChecksumOverIs table bytes r = r ≡ swapped 8 (foldOver table 0 bytes)
-
+-- what a checksum is, whichever engine computes it
 abbrev pub ChecksumIs : List ℕ → ℕ → Type 0
 ChecksumIs bytes r = r ≡ checksum bytes
-
--- `Crc64` holds the register byte-swapped
-abbrev pub NewIs : Crc64 → Type 0
-NewIs r = r .register ≡ 0
-
-abbrev pub UpdateIs : Crc64 → List ℕ → Crc64 → Type 0
-UpdateIs before bytes after = after .register ≡ swapped 8 (fold (swapped 8 (before .register)) bytes)
-
--- `chain` hands back what `update` leaves
-abbrev pub ChainIs : Crc64 → List ℕ → Crc64 → Type 0
-ChainIs before bytes after = UpdateIs before bytes after
-
-abbrev pub FinishIs : Crc64 → ℕ → Type 0
-FinishIs c r = r ≡ swapped 8 (c .register)

@@ -1,10 +1,7 @@
-// The checksum of the bus: a CRC-64 of its own, worked a byte at a time over a table. The register is held
-// byte-swapped, so that the loop takes the lowest byte, and `finish` swaps it back. What a checksum is stands in
-// specs/Polynomial.antt.
-ghost use Rattle.crc64.specs.Statement.{TableIs, SwapIs, FoldOverIs, FoldIs, ChecksumOverIs, ChecksumIs, NewIs, UpdateIs, ChainIs, FinishIs};
-ghost use Rattle.crc64.specs.Polynomial.{fold};
-ghost use Rattle.crc64.specs.Table.{swapped};
-ghost use mathlib.Core.Path.{_≡_};
+// The checksum of the bus, a CRC-64 of its own: the plain engine, a byte at a time over a table. The register is held
+// byte-swapped, so that the loop takes the lowest byte. What a checksum is stands in specs/Polynomial.antt; callers take
+// it from the crate `checksum`.
+ghost use Rattle.crc64.specs.Statement.{TableIs, SwapIs, FoldOverIs, FoldIs};
 
 // An entry for each byte: what it becomes in the eight steps that fold it in, byte-swapped.
 pub type Entries = [u64; 256];
@@ -313,61 +310,4 @@ pub fn fold(register: u64, bytes: &[u8]) -> u64
 {
     let table = table();
     swap_bytes(fold_over(&table, swap_bytes(register), bytes))
-}
-
-// For a caller that holds the table over several checksums. Over the true table it is the checksum.
-pub fn checksum_over(table: &Entries, bytes: &[u8]) -> u64
-    ensures { λ r. ⌜ ChecksumOverIs (now (table .entry)) (now (bytes .entry)) r ⌝ }
-{
-    swap_bytes(fold_over(table, 0, bytes))
-}
-
-pub fn checksum(bytes: &[u8]) -> u64
-    ensures { λ r. ⌜ ChecksumIs (now (bytes .entry)) r ⌝ }
-{
-    let table = table();
-    checksum_over(&table, bytes)
-}
-
-fn folded(register: u64, bytes: &[u8]) -> u64
-    ensures { λ r. ⌜ r ≡ swapped 8 (fold (swapped 8 register) (now (bytes .entry))) ⌝ }
-{
-    let table = table();
-    fold_over(&table, register, bytes)
-}
-
-// A checksum of bytes that come in several stretches.
-pub struct Crc64 {
-    register: u64,
-}
-
-impl Crc64 {
-    pub fn new() -> Self
-        ensures { λ r. ⌜ NewIs r ⌝ }
-    {
-        Self { register: 0 }
-    }
-
-    pub fn update(&mut self, bytes: &[u8])
-        ensures { λ _. ⌜ UpdateIs (now (self .entry)) (now (bytes .entry)) (now (self .exit)) ⌝ }
-    {
-        self.register = folded(self.register, bytes);
-    }
-
-    pub fn chain(self, bytes: &[u8]) -> Self
-        ensures { λ r. ⌜ ChainIs self (now (bytes .entry)) r ⌝ }
-    {
-        let register = self.register;
-        Self {
-            register: folded(register, bytes),
-        }
-    }
-
-    // The checksum as it is written on the wire.
-    pub fn finish(self) -> u64
-        ensures { λ r. ⌜ FinishIs self r ⌝ }
-    {
-        let register = self.register;
-        swap_bytes(register)
-    }
 }

@@ -1,17 +1,24 @@
 -- One result for each statement: two outcomes, with what the lent buffers hold at exit, that meet an exported function's statement
 -- are equal. Assumes nothing.
 use Prim.Native.Nat.{ℕ}
-use mathlib.Core.Path.{_≡_, sym, _∙_}
+use mathlib.Core.Path.{_≡_, sym, _∙_, ap}
 use mathlib.Core.List.{List}
 use Rattle.words.specs.Statement.{OneResult}
 use Rattle.words.proofs.Unique.{equal-to-one}
-use Rattle.crc64.specs.Statement.{ChecksumIs, SwapIs}
+use Rattle.crc64.specs.Statement.{ChecksumIs, FoldIs, SwapIs}
+use Rattle.crc64_combine.specs.Statement.{CombineIs}
+use Rattle.crc64_eight.specs.Statement.{Fold8Is}
+use Rattle.checksum.specs.Statement.{UpdatedIs}
 use Rattle.packet.specs.Statement.{PartChecksumIs}
 use Rattle.packet_read.specs.Statement.{defaultCeiling}
 use Rattle.wire_read.specs.Statement.{TellsPlain}
 use Rattle.guid.specs.Guid.{guidOf, guidOfHalves}
+use Rattle.guid_text.specs.declared.Parsed.{Parsed}
+use Rattle.guid_text.specs.Paper.{parsedPaper}
+use Rattle.guid_text.proofs.Unique.{parse-unique}
+use Rattle.words.specs.Paper.{outcome}
 use Rattle.words.specs.declared.outcome.Outcome.{Outcome}
-use Rattle.face.specs.Statement.{Updates, WritesId, Prints, Parses, GivesParts, GivesHalves, TellsNull, Decodes, Encodes, Measures, Validates, LendsPart, Contains, DecodesRowset, EncodesRowset, MeasuresRowset, ReadsValue}
+use Rattle.face.specs.Statement.{WritesId, Prints, Parses, GivesParts, GivesHalves, TellsNull, Decodes, Encodes, Measures, Validates, LendsPart, Contains, DecodesRowset, EncodesRowset, MeasuresRowset, ReadsValue}
 
 -- so of two things, and of three
 equal-to-two : {A B : Type 0} (a : A) (b : B) → OneResult (λ (x : A × B). (x .0 ≡ a) × (x .1 ≡ b))
@@ -23,11 +30,20 @@ equal-to-three a b c x x′ p q = λ i. ((p .0 ∙ sym (q .0)) i, (p .1 ∙ sym 
 pub cablefinch-checksum-unique : (bytes : List ℕ) → OneResult (ChecksumIs bytes)
 cablefinch-checksum-unique bytes = equal-to-one _
 
-pub cablefinch-update-unique : (register : ℕ) (bytes : List ℕ) → OneResult (Updates register bytes)
+pub cablefinch-update-unique : (register : ℕ) (bytes : List ℕ) → OneResult (UpdatedIs register bytes)
 cablefinch-update-unique register bytes = equal-to-one _
 
 pub cablefinch-finish-unique : (register : ℕ) → OneResult (SwapIs register)
 cablefinch-finish-unique register = equal-to-one _
+
+pub cablefinch-fold-unique : (register : ℕ) (bytes : List ℕ) → OneResult (FoldIs register bytes)
+cablefinch-fold-unique register bytes = equal-to-one _
+
+pub cablefinch-fold8-unique : (register : ℕ) (bytes : List ℕ) → OneResult (Fold8Is register bytes)
+cablefinch-fold8-unique register bytes = equal-to-one _
+
+pub cablefinch-combine-unique : (first second length : ℕ) → OneResult (CombineIs first second length)
+cablefinch-combine-unique first second length = equal-to-one _
 
 pub cablefinch-guid-from-parts-unique : (w0 w1 w2 w3 : ℕ) (before : List ℕ) → OneResult (λ (x : Outcome × List ℕ). WritesId (guidOf w0 w1 w2 w3) before (x .0) (x .1))
 cablefinch-guid-from-parts-unique w0 w1 w2 w3 before = equal-to-two _ _
@@ -39,7 +55,8 @@ pub cablefinch-guid-print-unique : (id before : List ℕ) → OneResult (λ (x :
 cablefinch-guid-print-unique id before = equal-to-two _ _
 
 pub cablefinch-guid-parse-unique : (text : List ℕ) → OneResult (Parses text)
-cablefinch-guid-parse-unique text = equal-to-one _
+cablefinch-guid-parse-unique text r r′ (answer, parsed, tells) (answer′, parsed′, tells′) =
+    tells ∙ ap (λ (a : Parsed). outcome (parsedPaper a)) (parse-unique text answer answer′ parsed parsed′) ∙ sym tells′
 
 pub cablefinch-guid-parts-unique : (id : List ℕ) → OneResult (GivesParts id)
 cablefinch-guid-parts-unique id = equal-to-one _

@@ -12,11 +12,12 @@ use Rattle.words.specs.Paper.{Tells, roomLine}
 use Rattle.words.specs.Statement.{Holds}
 use Rattle.words.specs.declared.outcome.Outcome.{Outcome}
 use Rattle.words.specs.declared.outcome.Room.the-variants.{Output}
-use Rattle.crc64.specs.Polynomial.{fold}
-use Rattle.crc64.specs.Table.{swapped}
 use Rattle.guid.specs.declared.Guid.{Guid}
 use Rattle.guid.specs.Guid.{wireBytes, guidAt, wordsOf, firstHalf, secondHalf, isNull}
-use Rattle.guid.specs.Text.{textOf, printing, reading as readingText}
+use Rattle.guid_text.specs.Text.{textOf, printing}
+use Rattle.guid_text.specs.declared.Parsed.{Parsed}
+use Rattle.guid_text.specs.Paper.{parsedPaper}
+use Rattle.guid_text.specs.Statement.{Parses as ParsesText}
 use Rattle.packet.specs.Layout.{lastType}
 use Rattle.packet.specs.declared.Mode.{Mode}
 use Rattle.packet.specs.declared.Mode.the-variants.{Archive, Live}
@@ -29,10 +30,6 @@ use Rattle.wire.specs.Layout.{countAt, rowWords, valueWords, rowsetBytes}
 use Rattle.wire_value.specs.ValueOrder.{valueReading}
 use Rattle.wire_read.specs.Reading as rowset
 use Rattle.wire_check.specs.Writing as rowsetWriting
-
--- the register is held byte-swapped
-abbrev pub Updates : ℕ → List ℕ → ℕ → Type 0
-Updates register bytes r = r ≡ swapped 8 (fold (swapped 8 register) bytes)
 
 -- GUIDs, lent as wire bytes
 
@@ -47,8 +44,9 @@ Prints id before r after =
     let answer = printing (guidAt id 0) (length before) in
     Tells answer r × Holds answer (textOf (guidAt id 0)) before after
 
+-- the one answer that the reader's statement allows, in words: the GUID's, or 16 with position and reason
 abbrev pub Parses : List ℕ → Outcome → Type 0
-Parses text r = Tells (readingText text) r
+Parses text r = (answer : Parsed) × ParsesText text answer × Tells (parsedPaper answer) r
 
 abbrev pub GivesParts : List ℕ → Outcome → Type 0
 GivesParts id r = Tells (accepted 0 (wordsOf (guidAt id 0))) r

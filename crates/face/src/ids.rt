@@ -48,14 +48,14 @@ pub extern "C" fn cablefinch_guid_print(id: &[u8], out: &mut [u8]) -> Outcome
     ensures { λ r. ⌜ Prints (now (id .entry)) (now (out .entry)) r (now (out .exit)) ⌝ }
 {
     let guid = Guid::from_bytes(id, 0);
-    guid::printed_outcome(guid.print(out))
+    guid_text::printed_outcome(guid_text::print(guid, out))
 }
 
 #[no_mangle]
 pub extern "C" fn cablefinch_guid_parse(text: &[u8]) -> Outcome
     ensures { λ r. ⌜ Parses (now (text .entry)) r ⌝ }
 {
-    guid::parsed_outcome(Guid::parse(text))
+    guid_text::parsed_outcome(guid_text::parse(text))
 }
 
 #[no_mangle]

@@ -1,48 +1,15 @@
--- One result for each statement: two results, or two results with their exits, that meet a public function's statement are
--- equal. An enum's map to document 01's answers is one-to-one, since it has a left inverse. Assumes nothing.
-use mathlib.Core.Path.{_≡_, refl, sym, _∙_, ap}
+-- One result for each statement: two results, or two exits of the lent buffer, that meet a public function's statement are
+-- equal. Assumes nothing.
 use mathlib.Core.List.{List}
 use Prim.Native.Nat.{ℕ}
-use lib.ListN.{length, getD}
 use Rattle.words.specs.Buffer.{fitted}
-use Rattle.words.specs.Answer.{Answer, accepted, more, refused}
+use Rattle.words.specs.Answer.{accepted}
 use Rattle.words.specs.Statement.{Leaves, OneResult}
 use Rattle.words.specs.Paper.{Tells, outcome}
-use Rattle.words.proofs.Unique.{equal-to-one, means-one}
-use Rattle.words.proofs.PaperLaws.{noRoomOf, no-room-back}
+use Rattle.words.proofs.Unique.{equal-to-one}
 use Rattle.guid.specs.declared.Guid.{Guid}
-use Rattle.guid.specs.declared.Printed.{Printed}
-use Rattle.guid.specs.declared.Printed.the-variants.{Written, Refused}
-use Rattle.guid.specs.declared.Parsed.{Parsed}
-use Rattle.guid.specs.declared.Parsed.the-variants.{Read, Bad}
 use Rattle.guid.specs.Guid.{guidOf, wordsOf, wireBytes, guidAt, halvesOf, guidOfHalves, isNull}
-use Rattle.guid.specs.Text.{textOf, printing, reading}
-use Rattle.guid.specs.Paper.{printedPaper, parsedPaper}
-use Rattle.guid.specs.Statement.{MadeOfParts, GivesParts, MadeOfHalves, GivesHalves, TellsNull, ReadsBytes, SizesText, Prints, Parses}
-
--- back from an answer to the enum's case
-printedBack : Answer → Printed
-printedBack (accepted count fields) = Written count
-printedBack more = Written 0
-printedBack (refused number values consumed) = Refused (noRoomOf values)
-
-printed-back : (r : Printed) → printedBack (printedPaper r) ≡ r
-unfolding printedBack
-printed-back (Written count) = refl
-printed-back (Refused short) = ap Refused (no-room-back short)
-
-parsedBack : Answer → Parsed
-parsedBack (accepted count fields) = Read (guidOf (getD fields 0 0) (getD fields 1 0) (getD fields 2 0) (getD fields 3 0))
-parsedBack more = Bad
-parsedBack (refused number values consumed) = Bad
-
-parsed-back : (r : Parsed) → parsedBack (parsedPaper r) ≡ r
-unfolding parsedBack
-parsed-back (Read g) = refl
-parsed-back Bad = refl
-
-pub parsed-told : (r r′ : Parsed) → parsedPaper r ≡ parsedPaper r′ → r ≡ r′
-parsed-told r r′ e = means-one parsedPaper parsedBack parsed-back (parsedPaper r′) r r′ e refl
+use Rattle.guid.specs.Statement.{MadeOfParts, GivesParts, MadeOfHalves, GivesHalves, TellsNull, ReadsBytes}
 
 pub Guid-from-parts-unique : (a b c d : ℕ) → OneResult (MadeOfParts a b c d)
 Guid-from-parts-unique a b c d = equal-to-one (guidOf a b c d)
@@ -65,22 +32,5 @@ Guid-from-bytes-unique s at = equal-to-one (guidAt s at)
 pub Guid-write-unique : (g : Guid) (before : List ℕ) → OneResult (Leaves (wireBytes g) before)
 Guid-write-unique g before = equal-to-one (fitted (wireBytes g) before)
 
-pub Guid-text-size-unique : (g : Guid) → OneResult (SizesText g)
-Guid-text-size-unique g = equal-to-one (length (textOf g))
-
-pub Guid-print-unique : (g : Guid) (before : List ℕ) → OneResult (λ (p : Printed × List ℕ). Prints g before (p .0) (p .1))
-Guid-print-unique g before p p′ q q′ =
-    let answer = means-one printedPaper printedBack printed-back (printing g (length before)) (p .0) (p′ .0) (q .0) (q′ .0) in
-    λ i. (answer i, (q .1 ∙ sym (q′ .1)) i)
-
-pub Guid-parse-unique : (s : List ℕ) → OneResult (Parses s)
-Guid-parse-unique s = means-one parsedPaper parsedBack parsed-back (reading s)
-
-pub printed-outcome-unique : (answer : Printed) → OneResult (Tells (printedPaper answer))
-printed-outcome-unique answer = equal-to-one (outcome (printedPaper answer))
-
 pub words-outcome-unique : (g : Guid) → OneResult (Tells (accepted 0 (wordsOf g)))
 words-outcome-unique g = equal-to-one (outcome (accepted 0 (wordsOf g)))
-
-pub parsed-outcome-unique : (answer : Parsed) → OneResult (Tells (parsedPaper answer))
-parsed-outcome-unique answer = equal-to-one (outcome (parsedPaper answer))

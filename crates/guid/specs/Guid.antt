@@ -1,5 +1,5 @@
--- A GUID's sixteen wire bytes, its four words in wire order and its two halves. Document 01, "GUID text"; `guid.rs` for the
--- halves: bytes 0 to 7 and bytes 8 to 15. All of them are little-endian. Assumes nothing.
+-- A GUID's sixteen wire bytes, its four words in wire order and its two halves. Document 01, "GUID text"; `guid.rs` for
+-- the halves: bytes 0 to 7 and bytes 8 to 15. All of them are little-endian. Assumes nothing.
 use Prim.Native.Nat.{ℕ, _+_, _<_, _^_}
 use mathlib.Core.Bool.{Bool, true, false}
 use mathlib.Core.List.{List, [], _∷_, _++_}

@@ -1,9 +1,3 @@
--- What a GUID is, as bytes, words, halves and text, after document 01, and what the crate's functions promise.
+-- What a GUID is, as bytes, words and halves, and what the functions promise.
 pub mod Guid
-pub mod Text
-pub mod Digits
-pub mod Form
-pub mod Normal
-pub mod Paper
 pub mod Statement
-pub mod Stages

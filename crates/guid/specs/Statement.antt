@@ -1,18 +1,12 @@
--- What each public function promises, by name: the statements that the contracts cite, over the inputs, the result and the
--- lent buffer at entry and at exit. Assumes nothing.
+-- What each public function promises, by name: the statements that the contracts cite, over the inputs and the result.
+-- Assumes nothing.
 use mathlib.Core.Path.{_≡_}
 use mathlib.Core.Bool.{Bool}
 use mathlib.Core.List.{List}
 use Prim.Native.Nat.{ℕ}
-use lib.ListN.{length}
-use Rattle.words.specs.Statement.{Means, Holds}
 use Rattle.guid.specs.declared.Guid.{Guid}
 use Rattle.guid.specs.declared.Halves.{Halves}
-use Rattle.guid.specs.declared.Printed.{Printed}
-use Rattle.guid.specs.declared.Parsed.{Parsed}
 use Rattle.guid.specs.Guid.{guidOf, wordsOf, guidAt, halvesOf, guidOfHalves, isNull}
-use Rattle.guid.specs.Text.{textOf, printing, reading}
-use Rattle.guid.specs.Paper.{printedPaper, parsedPaper}
 
 abbrev pub MadeOfParts : ℕ → ℕ → ℕ → ℕ → Guid → Type 0
 MadeOfParts a b c d r = r ≡ guidOf a b c d
@@ -31,13 +25,3 @@ TellsNull g r = r ≡ isNull g
 
 abbrev pub ReadsBytes : List ℕ → ℕ → Guid → Type 0
 ReadsBytes s at r = r ≡ guidAt s at
-
-abbrev pub SizesText : Guid → ℕ → Type 0
-SizesText g r = r ≡ length (textOf g)
-
--- the answer, and the text over the buffer's front where it has the room
-abbrev pub Prints : Guid → List ℕ → Printed → List ℕ → Type 0
-Prints g before r after = Means printedPaper (printing g (length before)) r × Holds (printing g (length before)) (textOf g) before after
-
-abbrev pub Parses : List ℕ → Parsed → Type 0
-Parses s r = Means parsedPaper (reading s) r

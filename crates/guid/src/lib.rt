@@ -1,24 +1,16 @@
-// YTsaurus GUIDs after guid.rs: sixteen wire bytes, four little-endian words, two halves, and one text, the words printed backwards.
-// A GUID is held as its four words, so that the enum of an answer can carry it; the wire bytes are read and written at the border.
+// YTsaurus GUIDs after guid.rs: sixteen wire bytes, four little-endian words, two halves. A GUID is held as its four words,
+// so that the enum of an answer can carry it; the wire bytes are read and written at the border. Its text is in
+// `guid_text`.
+ghost use mathlib.Core.Path.{_≡_};
 ghost use Rattle.words.specs.Statement.{Leaves};
 ghost use Rattle.words.specs.Answer.{accepted};
 ghost use Rattle.words.specs.Paper.{Tells};
 ghost use Rattle.guid.specs.Guid.{wireBytes, wordsOf};
-ghost use Rattle.guid.specs.Paper.{printedPaper, parsedPaper};
-ghost use Rattle.guid.specs.Statement.{MadeOfParts, GivesParts, MadeOfHalves, GivesHalves, TellsNull, ReadsBytes, SizesText, Prints, Parses};
-use hex::Field;
-use numerals::hex_size;
+ghost use Rattle.guid.specs.Statement.{MadeOfParts, GivesParts, MadeOfHalves, GivesHalves, TellsNull, ReadsBytes};
 use words::outcome::ACCEPTED;
-use words::outcome::NoRoom;
 use words::outcome::Outcome;
-use words::outcome::Room;
-use words::outcome::no_room;
-use words::outcome::refusal;
-use words::outcome::taken;
 use words::read::read_u32;
 use words::write::write_u32;
-
-mod hex;
 
 // The words in wire order.
 pub struct Guid {
@@ -33,18 +25,6 @@ pub type FourWords = [u32; 4];
 
 // Bytes 0 to 7 and bytes 8 to 15, as `TGuid` carries them.
 pub struct Halves(pub u64, pub u64);
-
-// What `print` answers: how many bytes it wrote, or 17.
-pub enum Printed {
-    Written(usize),
-    Refused(NoRoom),
-}
-
-// What `parse` answers: the GUID, or document 01's 16.
-pub enum Parsed {
-    Read(Guid),
-    Bad,
-}
 
 impl Guid {
     // The GUID of four words in wire order.
@@ -131,73 +111,6 @@ impl Guid {
         write_u32(&mut out[8..], self.w2);
         write_u32(&mut out[12..], self.w3);
     }
-
-    // How many bytes the text has.
-    pub fn text_size(self) -> usize
-        ensures { λ r. ⌜ SizesText self r ⌝ }
-    {
-        hex_size(self.w3) + hex_size(self.w2) + hex_size(self.w1) + hex_size(self.w0) + 3
-    }
-
-    // The text, over the front of `out`: Rust's `Display`.
-    pub fn print(self, out: &mut [u8]) -> Printed
-        ensures { λ r. ⌜ Prints self (now (out .entry)) r (now (out .exit)) ⌝ }
-    {
-        let needed = self.text_size();
-        if out.len() < needed {
-            return Printed::Refused(NoRoom {
-                room: Room::Output,
-                needed: needed as u64,
-                given: out.len() as u64,
-            });
-        }
-        let second = hex::put_dashed(out, self.w3);
-        let third = second + hex::put_dashed(&mut out[second..], self.w2);
-        let last = third + hex::put_dashed(&mut out[third..], self.w1);
-        hex::put(&mut out[last..], self.w0);
-        Printed::Written(needed)
-    }
-
-    // A text of four fields between dashes: Rust's `from_str`.
-    pub fn parse(text: &[u8]) -> Parsed
-        ensures { λ r. ⌜ Parses (now (text .entry)) r ⌝ }
-    {
-        let Field::Word(w3, end3) = hex::read_field(text, 0) else {
-            return Parsed::Bad;
-        };
-        if text.len() <= end3 {
-            return Parsed::Bad;
-        }
-        let Field::Word(w2, end2) = hex::read_field(text, end3 + 1) else {
-            return Parsed::Bad;
-        };
-        if text.len() <= end2 {
-            return Parsed::Bad;
-        }
-        let Field::Word(w1, end1) = hex::read_field(text, end2 + 1) else {
-            return Parsed::Bad;
-        };
-        if text.len() <= end1 {
-            return Parsed::Bad;
-        }
-        let Field::Word(w0, end0) = hex::read_field(text, end1 + 1) else {
-            return Parsed::Bad;
-        };
-        if end0 < text.len() {
-            return Parsed::Bad;
-        }
-        Parsed::Read(Guid { w0, w1, w2, w3 })
-    }
-}
-
-// What `print` answered, in words.
-pub fn printed_outcome(answer: Printed) -> Outcome
-    ensures { λ r. ⌜ Tells (printedPaper answer) r ⌝ }
-{
-    match answer {
-        Printed::Written(count) => taken(count as u64, 0, 0, 0),
-        Printed::Refused(short) => no_room(short),
-    }
 }
 
 // A GUID in words: its four words in wire order.
@@ -215,15 +128,5 @@ pub fn words_outcome(id: Guid) -> Outcome
         v4: 0,
         v5: 0,
         v6: 0,
-    }
-}
-
-// What `parse` answered, in words.
-pub fn parsed_outcome(answer: Parsed) -> Outcome
-    ensures { λ r. ⌜ Tells (parsedPaper answer) r ⌝ }
-{
-    match answer {
-        Parsed::Bad => refusal(16, 0, 0, 0, 0),
-        Parsed::Read(id) => words_outcome(id),
     }
 }

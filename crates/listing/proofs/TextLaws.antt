@@ -1,5 +1,6 @@
 -- Laws of text written at a place, and of the text's length. Assumes nothing.
 use mathlib.Core.Path.{_≡_, refl, sym, _∙_, ap, subst}
+use mathlib.Core.Bool.{Bool, true, false}
 use mathlib.Core.List.{List, [], _∷_, _++_, append-assoc, append-nil}
 use Prim.Native.Nat.{ℕ, zero, suc, _+_, _-_, _*_, _/_, _%_, _^_, _<_, _≤_}
 use native.Mathlib.Nat.{zero-add, add-zero, pow-succ'}
@@ -8,21 +9,22 @@ use native.Mathlib.Omega.{arith}
 use borrow.Author.Tests.{lt-ltb, le-ltb, eq-eqb, ne-eqb}
 use lib.ListN.{length, getD, set, take, drop, length-append, length-drop, drop-of-length-le, take-append-drop}
 use lib.Seq.{take-at, drop-at, drop-drop, length-take-le, set-split}
+use Rattle.words.specs.Decide.{pick, _=?_}
 use Rattle.words.specs.Buffer.{over, fitted}
 use Rattle.words.proofs.BufferLaws.{fitted-fits}
 use Rattle.words.proofs.LentLaws.{tail, back, tail-is-drop}
 use Rattle.numerals.specs.Statement.{decimal}
 use Rattle.numerals.proofs.SpelledLaws.{length-spelled-most}
-use Rattle.guid.proofs.TextLaws.{length-text}
+use Rattle.guid_text.proofs.TextLaws.{length-text}
 use Rattle.words.specs.Text.{text}
 use Rattle.guid.specs.declared.Guid.{Guid}
-use Rattle.guid.specs.Text.{textOf, printing}
+use Rattle.guid_text.specs.Text.{textOf, printing}
 use Rattle.words.specs.Statement.{Holds}
 use Rattle.packet.specs.declared.Packet.{Packet}
 use Rattle.packet.specs.Paper.{typeNumber, fieldsOf}
-use Rattle.packet.specs.Entries.{entryWords, nullLength}
-use Rattle.listing.specs.Text.{line, lengthText, packetLine, partLine, partLines, endLine, moreLine, refusedLine}
-use Rattle.listing.specs.Stages.{placed, Wrote}
+use Rattle.packet.specs.Entries.{entryWords, nullLength, sizeAt, sumAt}
+use Rattle.listing.specs.Text.{line, guardText, packetLine, partLine, partLines, endLine, moreLine, refusedLine}
+use Rattle.listing.specs.Stages.{placed, Wrote, entryText}
 
 pub length-placed : (at : ℕ) (ws xs : List ℕ) → at + length ws ≤ length xs → length (placed at ws xs) ≡ length xs
 unfolding placed
@@ -98,9 +100,14 @@ unfolding packetLine
 packet-text offset type p e =
     rw e (ap (λ (l : List ℕ). text "packet" ++ 32 ∷ l) (joined-five (decimal offset) (decimal (typeNumber (p .«packet_type»))) (decimal (p .flags .0)) (textOf (p .id)) (decimal (p .parts) ++ 10 ∷ [])))
 
-pub part-text : (index size : ℕ) → text "part" ++ (32 ∷ []) ++ (decimal index ++ 32 ∷ []) ++ line (lengthText size ∷ []) ≡ partLine index size
-unfolding partLine
-part-text index size = simp append-assoc
+pub part-text : (index size sum : ℕ) → text "part" ++ (32 ∷ []) ++ (decimal index ++ 32 ∷ []) ++ entryText size sum ≡ partLine index size sum
+unfolding partLine entryText
+part-text index size sum = go (size =? nullLength)
+  where
+    go : (b : Bool) → text "part" ++ (32 ∷ []) ++ (decimal index ++ 32 ∷ []) ++ pick b (line (text "null" ∷ [])) (line (decimal size ∷ guardText sum ∷ []))
+        ≡ pick b (line (text "part" ∷ decimal index ∷ text "null" ∷ [])) (line (text "part" ∷ decimal index ∷ decimal size ∷ guardText sum ∷ []))
+    go true = simp append-assoc
+    go false = simp append-assoc
 
 pub end-text : (offset : ℕ) → text "end" ++ (32 ∷ []) ++ (decimal offset ++ 10 ∷ []) ≡ endLine offset
 unfolding endLine
@@ -118,15 +125,24 @@ refused-text offset number = simp append-assoc
 pub wrote-as : {ws vs : List ℕ} {at r : ℕ} {xs ys : List ℕ} → ws ≡ vs → Wrote ws at xs r ys → Wrote vs at xs r ys
 wrote-as {at = at} {r = r} {xs = xs} {ys = ys} e w = subst (λ (l : List ℕ). Wrote l at xs r ys) e w
 
--- a part's length, null or not
-pub null-length : (size : ℕ) → size ≡ nullLength → text "null" ++ (10 ∷ []) ≡ line (lengthText size ∷ [])
-null-length size e = rw (eq-eqb size nullLength e)
+-- whether it was guarded
+pub bare-text : (sum : ℕ) → sum ≡ 0 → text "bare" ++ (10 ∷ []) ≡ line (guardText sum ∷ [])
+bare-text sum e = rw (eq-eqb sum 0 e)
 
-pub some-length : (size : ℕ) → (size ≡ nullLength → ⊥) → decimal size ++ (10 ∷ []) ≡ line (lengthText size ∷ [])
-some-length size ne = rw (ne-eqb size nullLength ne)
+pub guarded-text : (sum : ℕ) → (sum ≡ 0 → ⊥) → text "guarded" ++ (10 ∷ []) ≡ line (guardText sum ∷ [])
+guarded-text sum ne = rw (ne-eqb sum 0 ne)
+
+-- a part's entry, null or not
+pub null-entry : (size sum : ℕ) → size ≡ nullLength → text "null" ++ (10 ∷ []) ≡ entryText size sum
+unfolding entryText
+null-entry size sum e = rw (eq-eqb size nullLength e)
+
+pub some-entry : (size sum : ℕ) → (size ≡ nullLength → ⊥) → (decimal size ++ (32 ∷ [])) ++ line (guardText sum ∷ []) ≡ entryText size sum
+unfolding entryText
+some-entry size sum ne = rw (ne-eqb size nullLength ne) (append-assoc (decimal size) (32 ∷ []) (line (guardText sum ∷ [])))
 
 -- the lines of the parts, one after the other
-more-lines : (entries : List ℕ) (i : ℕ) → partLines entries i ++ partLine i (getD entries (entryWords * i + 1) 0) ≡ partLines entries (i + 1)
+more-lines : (entries : List ℕ) (i : ℕ) → partLines entries i ++ partLine i (sizeAt entries i) (sumAt entries i) ≡ partLines entries (i + 1)
 unfolding partLines
 more-lines entries i = rw (add-one i)
 
@@ -134,7 +150,7 @@ pub no-parts : (entries : List ℕ) (at : ℕ) (xs : List ℕ) → Wrote (partLi
 unfolding partLines placed
 no-parts entries at xs = record { ends = sym (add-zero at); holds = rw (add-zero at, append-nil (take at xs)) (sym (take-append-drop at xs)) }
 
-pub part-more : (entries : List ℕ) (i : ℕ) {at m r : ℕ} {xs ys zs : List ℕ} → m ≤ length xs → Wrote (partLines entries i) at xs m ys → Wrote (partLine i (getD entries (entryWords * i + 1) 0)) m ys r zs
+pub part-more : (entries : List ℕ) (i : ℕ) {at m r : ℕ} {xs ys zs : List ℕ} → m ≤ length xs → Wrote (partLines entries i) at xs m ys → Wrote (partLine i (sizeAt entries i) (sumAt entries i)) m ys r zs
     → Wrote (partLines entries (i + 1)) at xs r zs
 part-more entries i room first second = wrote-as (more-lines entries i) (wrote-then room first second)
 
@@ -142,7 +158,7 @@ part-more entries i room first second = wrote-as (more-lines entries i) (wrote-t
 pub parts-same : (es ts : List ℕ) (n : ℕ) → ((k : ℕ) → k < entryWords * n → getD es k 0 ≡ getD ts k 0) → partLines es n ≡ partLines ts n
 unfolding partLines
 parts-same es ts zero same = refl
-parts-same es ts (suc n) same = rw (parts-same es ts n (λ k below. same k (omega arith)), same (entryWords * n + 1) (omega arith))
+parts-same es ts (suc n) same = rw (parts-same es ts n (λ k below. same k (omega arith)), same (entryWords * n + 1) (omega arith), same (entryWords * n + 2) (omega arith))
 
 -- all of them
 pub parts-all : (entries : List ℕ) (i n : ℕ) {at r : ℕ} {xs ys : List ℕ} → i ≤ n → n ≤ i → Wrote (partLines entries i) at xs r ys → Wrote (partLines entries n) at xs r ys

@@ -149,7 +149,7 @@ module _ (s : List ℕ) (offset at : ℕ) (before : List ℕ) where
       same-lines = parts-same table′ (entries left) (packet .parts) (λ k below. ap (λ (t : List ℕ). getD t k 0) filled ∙ List·getD-append (entries left) (drop (length (entries left)) table) 0 k (omega (arith, words)))
 
       pub packet-listed : {end : ℕ} {after : List ℕ} → at ≤ 5 * offset
-          → Wrote (packetLine offset (fieldsOf packet) ++ partLines table′ (packet .parts)) at before end after → end ≤ at + (128 + 47 * packet .parts)
+          → Wrote (packetLine offset (fieldsOf packet) ++ partLines table′ (packet .parts)) at before end after → end ≤ at + (128 + 55 * packet .parts)
           → PacketLines s offset at before (offset + consumed) end after
       packet-listed early wrote short =
           record {

@@ -2,6 +2,7 @@
 // The program over it only reads and writes.
 use packet::ENTRY_WORDS;
 use packet::Mode;
+use packet::NULL_CHECKSUM;
 use packet::NULL_LENGTH;
 use packet::refused;
 use packet::type_number;
@@ -18,10 +19,10 @@ ghost use lib.ListN.{length};
 ghost use Rattle.words.specs.Buffer.{over};
 ghost use Rattle.packet.specs.Entries.{entryWords};
 ghost use Rattle.packet.specs.Paper.{fieldsOf};
-ghost use Rattle.listing.specs.Text.{line, lengthText, packetLine, partLine, partLines, endLine, moreLine, refusedLine};
+ghost use Rattle.listing.specs.Text.{line, guardText, packetLine, partLine, partLines, endLine, moreLine, refusedLine};
 ghost use Rattle.listing.specs.Output.{mostBytes, partCeiling, textRoom, linesFrom};
 ghost use Rattle.listing.specs.Statement.{Lists};
-ghost use Rattle.listing.specs.Stages.{Wrote, Steps, Fits};
+ghost use Rattle.listing.specs.Stages.{Wrote, entryText, Steps, Fits};
 
 mod text;
 
@@ -36,7 +37,7 @@ const MAX_MESSAGE_SIZE: u64 = 65_536;
 const MAX_PART_COUNT: u32 = 2_048;
 
 // The words of a part table with room for them.
-const PART_WORDS: usize = 4_096;
+const PART_WORDS: usize = 6_144;
 
 // What `list` answers: how many bytes of text it wrote, or 17.
 pub enum Listed {
@@ -65,35 +66,49 @@ fn packet_line(out: &mut [u8], at: usize, offset: usize, packet: packet::Packet)
     put_field(out, count_at, packet.parts as u64, b'\n')
 }
 
-// A part's length, or that it is null, and the line's end.
-fn put_length(out: &mut [u8], at: usize, size: u64) -> usize
-    requires { ⌜ at + 21 ≤ length (now out) ⌝ }
-    ensures { λ r. ⌜ Wrote (line (lengthText size ∷ [])) at (now (out .entry)) r (now (out .exit)) × (r ≤ at + 21) ⌝ }
+// Whether a part came with a checksum, and the line's end.
+fn put_guard(out: &mut [u8], at: usize, sum: u64) -> usize
+    requires { ⌜ at + 8 ≤ length (now out) ⌝ }
+    ensures { λ r. ⌜ Wrote (line (guardText sum ∷ [])) at (now (out .entry)) r (now (out .exit)) × (r ≤ at + 8) ⌝ }
+{
+    if sum == NULL_CHECKSUM {
+        return put_bytes(out, at, b"bare\n");
+    }
+    put_bytes(out, at, b"guarded\n")
+}
+
+// The rest of a part's line: that it is null, or its length and whether it was guarded.
+fn put_entry(out: &mut [u8], at: usize, size: u64, sum: u64) -> usize
+    requires { ⌜ at + 29 ≤ length (now out) ⌝ }
+    ensures { λ r. ⌜ Wrote (entryText size sum) at (now (out .entry)) r (now (out .exit)) × (r ≤ at + 29) ⌝ }
 {
     if size == NULL_LENGTH {
         return put_bytes(out, at, b"null\n");
     }
-    put_field(out, at, size, b'\n')
+    let guard_at = put_field(out, at, size, b' ');
+    put_guard(out, guard_at, sum)
 }
 
-fn part_line(out: &mut [u8], at: usize, index: usize, size: u64) -> usize
-    requires { ⌜ at + 47 ≤ length (now out) ⌝ }
-    ensures { λ r. ⌜ Wrote (partLine index size) at (now (out .entry)) r (now (out .exit)) × (r ≤ at + 47) ⌝ }
+fn part_line(out: &mut [u8], at: usize, index: usize, size: u64, sum: u64) -> usize
+    requires { ⌜ at + 55 ≤ length (now out) ⌝ }
+    ensures { λ r. ⌜ Wrote (partLine index size sum) at (now (out .entry)) r (now (out .exit)) × (r ≤ at + 55) ⌝ }
 {
     let index_at = put_bytes(out, at, b"part ");
     let length_at = put_field(out, index_at, index as u64, b' ');
-    put_length(out, length_at, size)
+    put_entry(out, length_at, size, sum)
 }
 
 // The lines of the parts of a part table, of which the first `count` entries are asked for.
 fn part_lines(out: &mut [u8], at: usize, parts: &[u64], count: usize) -> usize
-    requires { ⌜ (at + 47 * count ≤ length (now out)) × (entryWords * count ≤ length (now parts)) ⌝ }
-    ensures { λ r. ⌜ Wrote (partLines (now (parts .entry)) count) at (now (out .entry)) r (now (out .exit)) × (r ≤ at + 47 * count) ⌝ }
+    requires { ⌜ (at + 55 * count ≤ length (now out)) × (entryWords * count ≤ length (now parts)) ⌝ }
+    ensures { λ r. ⌜ Wrote (partLines (now (parts .entry)) count) at (now (out .entry)) r (now (out .exit)) × (r ≤ at + 55 * count) ⌝ }
 {
     let mut next = at;
     let mut index = 0;
     while index < count {
-        next = part_line(out, next, index, parts[ENTRY_WORDS * index + 1]);
+        let size = parts[ENTRY_WORDS * index + 1];
+        let sum = parts[ENTRY_WORDS * index + 2];
+        next = part_line(out, next, index, size, sum);
         index += 1;
     }
     next
@@ -106,8 +121,8 @@ fn packet_lines(
     packet: packet::Packet,
     parts: &[u64],
 ) -> usize
-    requires { ⌜ (at + (128 + 47 * packet .parts) ≤ length (now out)) × (entryWords * packet .parts ≤ length (now parts)) ⌝ }
-    ensures { λ r. ⌜ Wrote (packetLine offset (fieldsOf packet) ++ partLines (now (parts .entry)) (packet .parts)) at (now (out .entry)) r (now (out .exit)) × (r ≤ at + (128 + 47 * packet .parts)) ⌝ }
+    requires { ⌜ (at + (128 + 55 * packet .parts) ≤ length (now out)) × (entryWords * packet .parts ≤ length (now parts)) ⌝ }
+    ensures { λ r. ⌜ Wrote (packetLine offset (fieldsOf packet) ++ partLines (now (parts .entry)) (packet .parts)) at (now (out .entry)) r (now (out .exit)) × (r ≤ at + (128 + 55 * packet .parts)) ⌝ }
 {
     let count = packet.parts as usize;
     let parts_at = packet_line(out, at, offset, packet);

@@ -5,7 +5,7 @@ ghost use mathlib.Core.List.{[], _∷_, _++_};
 ghost use Prim.Native.Nat.{_+_, _≤_};
 ghost use lib.ListN.{length};
 ghost use Rattle.numerals.specs.Statement.{decimal};
-ghost use Rattle.guid.specs.Text.{textOf};
+ghost use Rattle.guid_text.specs.Text.{textOf};
 ghost use Rattle.listing.specs.Stages.{Wrote};
 
 pub(crate) fn put_bytes(out: &mut [u8], at: usize, bytes: &[u8]) -> usize
@@ -31,8 +31,8 @@ pub(crate) fn put_id(out: &mut [u8], at: usize, id: Guid) -> usize
     requires { ⌜ at + 36 ≤ length (now out) ⌝ }
     ensures { λ r. ⌜ Wrote (textOf id ++ 32 ∷ []) at (now (out .entry)) r (now (out .exit)) × (r ≤ at + 36) ⌝ }
 {
-    let last = at + id.text_size();
-    id.print(&mut out[at..]);
+    let last = at + guid_text::text_size(id);
+    guid_text::print(id, &mut out[at..]);
     out[last] = b' ';
     last + 1
 }

@@ -1,5 +1,7 @@
 -- The lent part table, from document 01: "Part: two u64 words, offset and length; null is offset 0, length 2^64-1.
--- Offsets count from the start of the read input, or of the byte area when writing." Assumes nothing.
+-- Offsets count from the start of the read input, or of the byte area when writing." Document 02, A6: "The part table
+-- gets a third word, the checksum word as stored in the packet, null parts included. The writer doesn't read it."
+-- Assumes nothing.
 use Prim.Native.Nat.{ℕ, zero, suc, _+_, _*_, _/_, _^_, _-_}
 use mathlib.Core.Bool.{Bool, not, _&&_}
 use mathlib.Core.List.{List, [], _∷_, _++_}
@@ -7,11 +9,11 @@ use lib.ListN.{length, getD}
 use Rattle.words.specs.Decide.{pick, _=?_, _<?_}
 use Rattle.words.specs.Buffer.{stretch}
 use Rattle.packet.specs.Layout as Layout
-use Rattle.packet.specs.Layout.{largestPart, size, start, count}
+use Rattle.packet.specs.Layout.{largestPart, size, start, count, partSum}
 
 -- the words of an entry
 abbrev pub entryWords : ℕ
-entryWords = 2
+entryWords = 3
 
 abbrev pub nullLength : ℕ
 nullLength = 2 ^ 64 - 1
@@ -42,6 +44,10 @@ module _ (table : List ℕ) (i : ℕ) where
 
   abbrev pub sizeAt : ℕ
   sizeAt = getD table (entryWords * i + 1) 0
+
+  -- the checksum word that was stored for it, 0 where it was not guarded
+  abbrev pub sumAt : ℕ
+  sumAt = getD table (entryWords * i + 2) 0
 
   abbrev pub nullAt : Bool
   nullAt = isNull offsetAt sizeAt
@@ -76,7 +82,7 @@ module _ (area table : List ℕ) (i : ℕ) where
 
 -- "Reading fills whole entries from the front": the entry of part i of the n of an input s
 abbrev pub entry : List ℕ → ℕ → ℕ → List ℕ
-entry s n i = pick (Layout.isNull s i) (0 ∷ nullLength ∷ []) (start s n i ∷ size s i ∷ [])
+entry s n i = pick (Layout.isNull s i) (0 ∷ nullLength ∷ partSum s n i ∷ []) (start s n i ∷ size s i ∷ partSum s n i ∷ [])
 
 -- the entries of the k parts before part i + k, from part i on
 unfoldable pub entriesFrom : List ℕ → ℕ → ℕ → ℕ → List ℕ

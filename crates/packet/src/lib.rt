@@ -44,8 +44,8 @@ pub const MAX_PART_COUNT: u32 = 0x1000_0000;
 // A checksum word that holds this was not computed, and is not verified.
 pub const NULL_CHECKSUM: u64 = 0;
 
-// The words of an entry of the lent part table: offset and length.
-pub const ENTRY_WORDS: usize = 2;
+// The words of an entry of the lent part table: offset, length, and the checksum word as stored in the packet.
+pub const ENTRY_WORDS: usize = 3;
 
 // The length word of a null part, whose offset is 0.
 pub const NULL_LENGTH: u64 = 0xffff_ffff_ffff_ffff;
@@ -256,5 +256,5 @@ pub fn part<'a>(input: &'a [u8], parts: &[u64], index: usize) -> &'a [u8]
 pub fn part_checksum(input: &[u8], parts: &[u64], index: usize) -> u64
     ensures { λ r. ⌜ PartChecksumIs (now (input .entry)) (now (parts .entry)) index r ⌝ }
 {
-    crc64::checksum(part(input, parts, index))
+    checksum::checksum(part(input, parts, index))
 }

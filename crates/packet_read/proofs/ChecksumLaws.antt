@@ -4,20 +4,13 @@ use mathlib.Core.Bool.{Bool, true, false, _&&_}
 use mathlib.Core.List.{List}
 use Prim.Native.Nat.{ℕ}
 use borrow.Author.Tests.{eq-eqb, ne-eqb}
-use Rattle.words.specs.Word.{Bytes}
 use Rattle.words.specs.Decide.{_≠?_}
 use Rattle.crc64.specs.Polynomial.{checksum}
-use Rattle.crc64.specs.Statement.{TableIs, ChecksumOverIs}
-use Rattle.crc64.proofs.Entries.{checksum-over-true}
 use Rattle.packet_read.specs.declared.Verdict.{Verdict}
 use Rattle.packet_read.specs.declared.Verdict.the-variants.{Passed, Failed}
 use Rattle.packet.specs.Layout.{nullSize}
 use Rattle.packet_read.specs.Reading.{fails}
 use Rattle.packet_read.specs.Stages.{Verifies, PartVerifies}
-
--- over the true table a checksum is the checksum
-pub over-true : (table bytes : List ℕ) (actual : ℕ) → TableIs table → Bytes bytes → ChecksumOverIs table bytes actual → actual ≡ checksum bytes
-over-true table bytes actual true-table is-bytes over = over ∙ rw true-table (checksum-over-true bytes is-bytes)
 
 pub matches : (stored : ℕ) (bytes : List ℕ) (actual : ℕ) → actual ≡ checksum bytes → actual ≡ stored → fails stored bytes ≡ false
 matches stored bytes actual is same = rw (eq-eqb stored (checksum bytes) (sym same ∙ is)) (go (stored ≠? 0))

@@ -41,7 +41,6 @@ ghost use Prim.Native.Nat.{_+_, _*_, _≤_, _<_, min};
 ghost use lib.ListN.{length};
 ghost use Rattle.words.specs.Decide.{pick, _=?_, _<?_};
 ghost use Rattle.words.specs.Buffer.{over};
-ghost use Rattle.crc64.specs.Statement.{TableIs};
 ghost use Rattle.packet.specs.Layout as Layout;
 ghost use Rattle.packet.specs.Layout.{nullSize, largestPart, mostParts, headers, type, fields, whole};
 ghost use Rattle.packet.specs.Entries.{nullLength, entryWords, entriesFrom};
@@ -92,14 +91,13 @@ enum Parts {
 }
 
 // Whether bytes carry the checksum stored for them.
-fn verified(table: &[u64; 256], stored: u64, bytes: &[u8]) -> Verdict
-    requires { ⌜ TableIs (now table) ⌝ }
+fn verified(stored: u64, bytes: &[u8]) -> Verdict
     ensures { λ r. ⌜ Verifies stored (now (bytes .entry)) r ⌝ }
 {
     if stored == NULL_CHECKSUM {
         return Verdict::Passed;
     }
-    let actual = crc64::checksum_over(table, bytes);
+    let actual = checksum::checksum(bytes);
     if actual == stored {
         return Verdict::Passed;
     }
@@ -118,8 +116,7 @@ fn header(input: &[u8], packet_type: PacketType) -> Packet
     }
 }
 
-fn fixed_header(mode: Mode, table: &[u64; 256], input: &[u8]) -> Fixed
-    requires { ⌜ TableIs (now table) ⌝ }
+fn fixed_header(mode: Mode, input: &[u8]) -> Fixed
     ensures { λ r. ⌜ FixedStage mode (now (input .entry)) r ⌝ }
 {
     if input.len() < FIXED_HEADER_SIZE {
@@ -137,7 +134,7 @@ fn fixed_header(mode: Mode, table: &[u64; 256], input: &[u8]) -> Fixed
                 return Fixed::Refused(PacketError::RetiredType(raw));
             }
             let expected = read_u64(input, FIXED_FIELDS_SIZE);
-            match verified(table, expected, &input[..FIXED_FIELDS_SIZE]) {
+            match verified(expected, &input[..FIXED_FIELDS_SIZE]) {
                 Verdict::Failed(actual) => {
                     Fixed::Refused(PacketError::FixedHeaderChecksum { expected, actual })
                 }
@@ -206,8 +203,7 @@ fn sized(input: &[u8], count: usize, limit: u64) -> Variable
     }
 }
 
-fn variable_header(table: &[u64; 256], input: &[u8], count: usize, limit: u64) -> Variable
-    requires { ⌜ TableIs (now table) ⌝ }
+fn variable_header(input: &[u8], count: usize, limit: u64) -> Variable
     requires { ⌜ count ≤ mostParts ⌝ }
     ensures { λ r. ⌜ VariableStage (now (input .entry)) count limit r ⌝ }
 {
@@ -223,7 +219,7 @@ fn variable_header(table: &[u64; 256], input: &[u8], count: usize, limit: u64) -
     }
     let sums = FIXED_HEADER_SIZE + PART_HEADER_SIZE * count;
     let expected = read_u64(input, sums);
-    match verified(table, expected, &input[FIXED_HEADER_SIZE..sums]) {
+    match verified(expected, &input[FIXED_HEADER_SIZE..sums]) {
         Verdict::Failed(actual) => {
             Variable::Refused(PacketError::VariableHeaderChecksum { expected, actual })
         }
@@ -232,18 +228,16 @@ fn variable_header(table: &[u64; 256], input: &[u8], count: usize, limit: u64) -
 }
 
 // A null part's checksum word is not looked at.
-fn check_part(table: &[u64; 256], stored: u64, size: u32, bytes: &[u8]) -> Verdict
-    requires { ⌜ TableIs (now table) ⌝ }
+fn check_part(stored: u64, size: u32, bytes: &[u8]) -> Verdict
     ensures { λ r. ⌜ PartVerifies size stored (now (bytes .entry)) r ⌝ }
 {
     if size == NULL_PART_SIZE {
         return Verdict::Passed;
     }
-    verified(table, stored, bytes)
+    verified(stored, bytes)
 }
 
-fn check_parts(table: &[u64; 256], input: &[u8], count: usize) -> Parts
-    requires { ⌜ TableIs (now table) ⌝ }
+fn check_parts(input: &[u8], count: usize) -> Parts
     requires { ⌜ (whole (now input) count ≤ length (now input)) × (count ≤ mostParts) ⌝ }
     ensures { λ r. ⌜ PartsStage (now (input .entry)) count r ⌝ }
 {
@@ -254,7 +248,7 @@ fn check_parts(table: &[u64; 256], input: &[u8], count: usize) -> Parts
         let size = read_u32(input, FIXED_HEADER_SIZE + SIZE_BYTES * index);
         let end = at + taken(size) as usize;
         let expected = read_u64(input, sums + CHECKSUM_BYTES * index);
-        match check_part(table, expected, size, &input[at..end]) {
+        match check_part(expected, size, &input[at..end]) {
             Verdict::Failed(actual) => {
                 return Parts::Failing {
                     index,
@@ -287,18 +281,21 @@ fn length_word(size: u32) -> u64
     }
 }
 
-// The table's entries, from its front.
+// The table's entries, from its front: offset, length, and the checksum word as it is stored, a null part's too.
 fn fill(input: &[u8], count: usize, parts: &mut [u64])
     requires { ⌜ (whole (now input) count ≤ length (now input)) × (count ≤ mostParts)
         × (entryWords * count ≤ length (now parts)) ⌝ }
     ensures { λ _. ⌜ now (parts .exit) ≡ over (entriesFrom (now (input .entry)) count 0 count) (now (parts .entry)) ⌝ }
 {
+    let sums = FIXED_HEADER_SIZE + SIZE_BYTES * count;
     let mut at = (HEADERS_SIZE + PART_HEADER_SIZE * count) as u64;
     let mut index = 0;
     while index < count {
         let size = read_u32(input, FIXED_HEADER_SIZE + SIZE_BYTES * index);
+        let sum = read_u64(input, sums + CHECKSUM_BYTES * index);
         parts[ENTRY_WORDS * index] = offset_word(size, at);
         parts[ENTRY_WORDS * index + 1] = length_word(size);
+        parts[ENTRY_WORDS * index + 2] = sum;
         at += taken(size);
         index += 1;
     }
@@ -315,22 +312,14 @@ fn most_parts(ceiling: u32) -> u32
 }
 
 // A packet with a variable header: all that is asked behind the count of its parts.
-fn body(
-    table: &[u64; 256],
-    input: &[u8],
-    packet: Packet,
-    count: usize,
-    limit: u64,
-    parts: &mut [u64],
-) -> Decoded
-    requires { ⌜ TableIs (now table) ⌝ }
+fn body(input: &[u8], packet: Packet, count: usize, limit: u64, parts: &mut [u64]) -> Decoded
     requires { ⌜ (fieldsOf packet ≡ fields (now input)) × (count ≤ mostParts) × (count ≡ Layout.count (now input)) ⌝ }
     ensures { λ r. ⌜ BodyStage (now (input .entry)) count limit (now (parts .entry)) r (now (parts .exit)) ⌝ }
 {
-    match variable_header(table, input, count, limit) {
+    match variable_header(input, count, limit) {
         Variable::More => Decoded::More,
         Variable::Refused(error) => Decoded::Refused { error, consumed: 0 },
-        Variable::Whole(consumed) => match check_parts(table, input, count) {
+        Variable::Whole(consumed) => match check_parts(input, count) {
             Parts::Failing {
                 index,
                 expected,
@@ -374,8 +363,7 @@ pub fn decode_with(
     ensures { λ r. ⌜ Decodes (now (input .entry)) (limited mode «max_message_size» «max_part_count» (now (parts .entry)))
         (now (parts .entry)) r (now (parts .exit)) ⌝ }
 {
-    let table = crc64::table();
-    match fixed_header(mode, &table, input) {
+    match fixed_header(mode, input) {
         Fixed::More => Decoded::More,
         Fixed::Refused(error) => Decoded::Refused { error, consumed: 0 },
         Fixed::Header(packet) => {
@@ -388,14 +376,7 @@ pub fn decode_with(
             }
             let packet_type = packet.packet_type;
             if has_variable_header(packet_type, count as usize) {
-                return body(
-                    &table,
-                    input,
-                    packet,
-                    count as usize,
-                    max_message_size,
-                    parts,
-                );
+                return body(input, packet, count as usize, max_message_size, parts);
             }
             Decoded::Read {
                 packet,

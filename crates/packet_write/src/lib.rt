@@ -1,6 +1,5 @@
 // Bus packet framing, the writing side: the parts that a lent table names in a lent area are written to a lent output
 // as one packet. Each writer is lent the part of the output that begins at its own place.
-use crc64::Entries;
 use guid::Guid;
 use packet::CHECKSUM_BYTES;
 use packet::COUNT_AT;
@@ -33,7 +32,6 @@ ghost use mathlib.Core.Bool.{false};
 ghost use Prim.Native.Nat.{_≤_, _+_, _*_};
 ghost use lib.ListN.{length, take};
 ghost use Rattle.words.specs.Buffer.{over};
-ghost use Rattle.crc64.specs.Statement.{TableIs};
 ghost use Rattle.packet.specs.Layout.{fixedFieldsSize, fixedHeaderSize, sizeBytes, checksumBytes};
 ghost use Rattle.packet.specs.Paper.{typeNumber};
 ghost use Rattle.packet.specs.Entries.{room, isTooLarge};
@@ -59,12 +57,11 @@ fn size_word(offset: u64, length: u64) -> u32
 }
 
 // The checksum of the output's first `size` bytes, behind them.
-fn seal(table: &Entries, size: usize, out: &mut [u8])
-    requires { ⌜ TableIs (now table) ⌝ }
+fn seal(size: usize, out: &mut [u8])
     requires { ⌜ size + checksumBytes ≤ length (now out) ⌝ }
     ensures { λ _. ⌜ now (out .exit) ≡ over (sealed (take size (now (out .entry)))) (now (out .entry)) ⌝ }
 {
-    let sum = crc64::checksum_over(table, &out[..size]);
+    let sum = checksum::checksum(&out[..size]);
     write_u64(&mut out[size..], sum);
 }
 
@@ -95,8 +92,7 @@ fn write_sizes(parts: &[u64], out: &mut [u8])
     }
 }
 
-fn write_sums(table: &Entries, area: &[u8], parts: &[u64], out: &mut [u8])
-    requires { ⌜ TableIs (now table) ⌝ }
+fn write_sums(area: &[u8], parts: &[u64], out: &mut [u8])
     requires { ⌜ (room (now parts) ≤ firstOutside (now area) (now parts))
         × (checksumBytes * room (now parts) ≤ length (now out)) ⌝ }
     ensures { λ _. ⌜ now (out .exit)
@@ -105,7 +101,7 @@ fn write_sums(table: &Entries, area: &[u8], parts: &[u64], out: &mut [u8])
     let count = parts.len() / ENTRY_WORDS;
     let mut index = 0;
     while index < count {
-        let sum = crc64::checksum_over(table, packet::part(area, parts, index));
+        let sum = checksum::checksum(packet::part(area, parts, index));
         let at = CHECKSUM_BYTES * index;
         write_u64(&mut out[at..], sum);
         index += 1;
@@ -130,8 +126,7 @@ fn write_contents(area: &[u8], parts: &[u64], out: &mut [u8])
 }
 
 // What follows the fixed header: sizes, checksums, their checksum, and the parts.
-fn write_body(table: &Entries, area: &[u8], parts: &[u64], out: &mut [u8])
-    requires { ⌜ TableIs (now table) ⌝ }
+fn write_body(area: &[u8], parts: &[u64], out: &mut [u8])
     requires { ⌜ Passes (now area) (now parts) × (length (body (partsOf (now area) (now parts))) ≤ length (now out)) ⌝ }
     ensures { λ _. ⌜ now (out .exit)
         ≡ over (body (partsOf (now (area .entry)) (now (parts .entry)))) (now (out .entry)) ⌝ }
@@ -139,31 +134,22 @@ fn write_body(table: &Entries, area: &[u8], parts: &[u64], out: &mut [u8])
     let count = parts.len() / ENTRY_WORDS;
     write_sizes(parts, out);
     let sums = SIZE_BYTES * count;
-    write_sums(table, area, parts, &mut out[sums..]);
+    write_sums(area, parts, &mut out[sums..]);
     let size = PART_HEADER_SIZE * count;
-    seal(table, size, out);
+    seal(size, out);
     let contents = size + CHECKSUM_BYTES;
     write_contents(area, parts, &mut out[contents..]);
 }
 
-fn write_fixed(
-    table: &Entries,
-    packet_type: PacketType,
-    flags: PacketFlags,
-    id: Guid,
-    count: u32,
-    out: &mut [u8],
-)
-    requires { ⌜ TableIs (now table) ⌝ }
+fn write_fixed(packet_type: PacketType, flags: PacketFlags, id: Guid, count: u32, out: &mut [u8])
     requires { ⌜ fixedHeaderSize ≤ length (now out) ⌝ }
     ensures { λ _. ⌜ now (out .exit)
         ≡ over (sealed (fixedFields (typeNumber «packet_type») (flags .0) id count)) (now (out .entry)) ⌝ }
 {
     write_fields(packet_type, flags, id, count, out);
-    seal(table, FIXED_FIELDS_SIZE, out);
+    seal(FIXED_FIELDS_SIZE, out);
 }
 
-// The table of the checksum is made once.
 fn write_packet(
     packet_type: PacketType,
     flags: PacketFlags,
@@ -178,10 +164,9 @@ fn write_packet(
         ≡ over (bytesFor «packet_type» flags id (now (area .entry)) (now (parts .entry))) (now (out .entry)) ⌝ }
 {
     let count = parts.len() / ENTRY_WORDS;
-    let table = crc64::table();
-    write_fixed(&table, packet_type, flags, id, count as u32, out);
+    write_fixed(packet_type, flags, id, count as u32, out);
     if packet::has_variable_header(packet_type, count) {
-        write_body(&table, area, parts, &mut out[FIXED_HEADER_SIZE..]);
+        write_body(area, parts, &mut out[FIXED_HEADER_SIZE..]);
     }
 }
 

@@ -5,15 +5,14 @@ use mathlib.Core.Logic.{⊎-elim, _⊎_, inl}
 use Prim.Native.Nat.{ℕ, _+_, _-_, _<_, _≤_, min}
 use native.Mathlib.Nat.{add-sub-of-le}
 use native.Mathlib.Omega.{arith}
-use lib.ListN.{length, getD, drop, length-take, length-drop}
+use lib.ListN.{length, getD, take, drop, length-take, length-drop}
 use lib.Seq.{ext-getD, getD-take, getD-drop, take-take}
 use Rattle.words.specs.Word.{word, Bytes}
 use Rattle.words.specs.Buffer.{stretch}
 use Rattle.words.proofs.WordLaws.{word-same}
 use Rattle.words.proofs.DecideLaws.{le-or-gt}
-use Rattle.crc64.specs.Polynomial.{checksum}
 use Rattle.crc64.specs.Damage.{Damaged}
-use Rattle.crc64.proofs.Burst.{burst, bytes-take, bytes-drop}
+use Rattle.crc64.proofs.Burst.{bytes-take, bytes-drop}
 
 module _ {at run : ℕ} {s t : List ℕ} (damaged : Damaged at run s t) where
   -- before the run and behind it they agree
@@ -89,7 +88,18 @@ module _ {at run : ℕ} {s t : List ℕ} (damaged : Damaged at run s t) where
           differ = λ e. damaged .differ (ext-getD 0 s t (damaged .same-length) (λ i h. whole-same e i));
         }
 
-    -- so its checksum is another
-    pub other-checksum : run ≤ 8 → Bytes s → Bytes t → checksum (stretch s from long) ≡ checksum (stretch t from long) → ⊥
-    other-checksum few bytes-s bytes-t =
-        burst few damaged-stretch (bytes-take long (drop from s) (bytes-drop from s bytes-s)) (bytes-take long (drop from t) (bytes-drop from t bytes-t))
+    -- the inputs differ only inside that stretch
+    pub damaged-within : Damaged from long s t
+    damaged-within =
+        record {
+          same-length = damaged .same-length;
+          same-front = sym (take-take from at s low) ∙ ap (take from) (damaged .same-front) ∙ take-take from at t low;
+          same-rest =
+              ext-getD 0 (drop (from + long) s) (drop (from + long) t) (simp length-drop (ap (λ (n : ℕ). n - (from + long)) (damaged .same-length)))
+              (λ i h. getD-drop (from + long) s i 0 ∙ same-behind (from + long + i) (omega arith) ∙ sym (getD-drop (from + long) t i 0));
+          differ = damaged .differ;
+        }
+
+-- a stretch of bytes is bytes
+pub bytes-stretch : (from long : ℕ) (s : List ℕ) → Bytes s → Bytes (stretch s from long)
+bytes-stretch from long s known = bytes-take long (drop from s) (bytes-drop from s known)

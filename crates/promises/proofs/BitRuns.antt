@@ -80,7 +80,7 @@ bits-64-seen a b from count sumA sumB ha hb few d of-a of-b same =
 eight-more : (n : ℕ) → 8 * suc n ≡ 8 + 8 * n
 eight-more n = mul-suc 8 n ∙ add-comm (8 * n) 8
 
-length-bits : (s : List ℕ) → length (bits s) ≡ 8 * length s
+pub length-bits : (s : List ℕ) → length (bits s) ≡ 8 * length s
 unfolding bits bitsOf
 length-bits [] = refl
 length-bits (b ∷ s) = length-append (bitsOf 8 b) (bits s) ∙ ap (λ (n : ℕ). 8 + n) (length-bits s) ∙ sym (eight-more (length s))

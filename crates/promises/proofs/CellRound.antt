@@ -29,7 +29,7 @@ word-stands k j n s a b at e size fits =
     ∙ mod-eq-of-lt fits
 
 -- a byte is a word of one byte
-one-byte : (s : List ℕ) (at : ℕ) → wordAt 1 s at ≡ getD s at 0
+pub one-byte : (s : List ℕ) (at : ℕ) → wordAt 1 s at ≡ getD s at 0
 unfolding wordAt
 one-byte s at = add-zero (getD s at 0)
 
@@ -56,7 +56,7 @@ blob-no-scalar type is =
     let low : 15 < type = ltb-true 15 type (both (ltb 15 type) (ltb type 19) is .0) in
     rw (lt-ltb 2 type (omega arith), le-ltb type 7 (omega arith))
 
-small-flag : (x : ℕ) → x ≤ 1 → flag x ≡ x
+pub small-flag : (x : ℕ) → x ≤ 1 → flag x ≡ x
 small-flag x h = by-test (eqb x 0) (λ e. rw e (sym (eqb-true x 0 e))) (λ e. rw e (omega (arith, eqb-false x 0 e)))
 
 -- what a content that fits its type says of the type

@@ -21,7 +21,7 @@ wordsOf [] = []
 wordsOf (row ∷ rows) = rowWord row ∷ wordsOf rows
 
 module _ (s : List ℕ) where
-  length-cellsAt : (n at : ℕ) → length (cellsAt s n at) ≡ n
+  pub length-cellsAt : (n at : ℕ) → length (cellsAt s n at) ≡ n
   unfolding cellsAt
   length-cellsAt zero at = refl
   length-cellsAt (suc n) at = ap suc (length-cellsAt n (nextValue s at))

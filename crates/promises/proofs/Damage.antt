@@ -1,11 +1,11 @@
--- Demand 3: damage is named. Each stretch rests on the burst law; the lines of the order before it see the same bytes
+-- Demand 3: damage is named. Each stretch rests on the law of 64 bits; the lines of the order before it see the same bytes
 -- as in the input that was accepted. Assumes nothing.
-use mathlib.Core.Path.{_≡_, refl, sym, _∙_, ap}
+use mathlib.Core.Path.{_≡_, refl, sym, _∙_, ap, subst}
 use mathlib.Core.Bool.{Bool, true, false, not, _&&_, or-true}
 use mathlib.Core.List.{List, [], _∷_}
 use mathlib.Core.Logic.{⊎-elim, inl, inr}
-use Prim.Native.Nat.{ℕ, zero, suc, _+_, _*_, _<_, _≤_}
-use native.Mathlib.Nat.{zero-add}
+use Prim.Native.Nat.{ℕ, zero, suc, _+_, _-_, _*_, _/_, _<_, _≤_}
+use native.Mathlib.Nat.{zero-add, le-refl}
 use native.Mathlib.Omega.{arith}
 use borrow.Author.Tests.{lt-ltb, ne-eqb}
 use lib.ListN.{length}
@@ -22,10 +22,13 @@ use Rattle.packet.specs.Mode.{isRetired}
 use Rattle.packet_read.specs.Paper.{paper}
 use Rattle.packet.specs.Paper.{fieldsOf}
 use Rattle.promises.proofs.TablesKeep.{packet-tables-keep}
-use Rattle.packet_read.specs.Reading.{Limits, fails, tooLarge, partFails, firstTooLarge, firstFailing, fixedLines, variableLines, sizeLines, partLines, reading}
+use Rattle.packet.specs.Entries.{entryWords}
+use Rattle.packet_read.specs.Statement.{Decodes, defaultCeiling}
+use Rattle.packet_read.specs.Reading.{Limits, limited, fails, tooLarge, partFails, firstTooLarge, firstFailing, fixedLines, variableLines, sizeLines, partLines, reading}
 use Rattle.packet_read.proofs.SizeLaws.{taken-below}
-use Rattle.promises.specs.Damage.{Stretch, fixedHeader, variableHeader, partAt, from, long, Names, Confined, ConfinedIsNamed, DamageIsNamed}
-use Rattle.promises.proofs.Agreement.{same-word, same-stretch, other-checksum}
+use Rattle.promises.specs.Damage.{Stretch, fixedHeader, variableHeader, partAt, from, long, Names, Inside, Confined, Hit, HitInBytes, ConfinedIsNamed, DamageIsNamed, BytesAreNamed, DecodeWithNamesDamage, DecodeNamesDamage}
+use Rattle.promises.proofs.Agreement.{same-word, same-stretch, damaged-stretch, damaged-within, bytes-stretch}
+use Rattle.promises.proofs.BitRuns.{bits-64-seen, bytes-are-bits}
 use Rattle.promises.proofs.Acceptance.{guards, present, none-of, not-null, passed-before, passed-behind}
 use Rattle.packet_read.proofs.Lines.{Before, Behind, front, rest, reading-is, pass-before}
 
@@ -235,16 +238,59 @@ confined-is-named s t limits table lent packet consumed filled r after part at r
     let named : Names t (limits .mode) part (paper r) = rw (told .answer) (reading-names s t limits consumed (fieldsOf packet) part at run (sym (taken .answer)) hit) in
     (named, packet-tables-keep t limits lent r after told .0 (not-taken t (limits .mode) part (paper r) named))
 
--- Demand 3: damage is named. An accepted packet, damaged only inside one run of at most eight bytes of one checksummed
+-- Demand 3: damage is named. An accepted packet, damaged only inside one run of at most 64 bits of one checksummed
 -- stretch whose stored word is not 0, is refused by that stretch's checksum (or by 1 or 2, where its signature or type
 -- is none any more, or in live mode by 24, where its type is now a retired one): an altered term does not pass for another term.
 pub damage-is-named : DamageIsNamed
 damage-is-named s t limits table lent packet consumed filled r after part at run taken hit =
-    confined-is-named s t limits table lent packet consumed filled r after part at run taken
+    confined-is-named s t limits table lent packet consumed filled r after part (from s part) (long s part) taken
     (record {
       guarded = hit .guarded;
       inside = hit .inside;
       changed =
-          other-checksum (hit .inside .damaged) (from s part) (long s part) (hit .inside .starts) (hit .inside .ends) (hit .few) (hit .bytes-before)
-          (hit .bytes-after);
+          bits-64-seen (stretch s (from s part) (long s part)) (stretch t (from s part) (long s part)) at run _ _
+          (bytes-stretch (from s part) (long s part) s (hit .bytes-before))
+          (bytes-stretch (from s part) (long s part) t (hit .bytes-after))
+          (hit .few)
+          (hit .flipped)
+          refl
+          refl;
     })
+
+-- a run of at most eight bytes in a stretch is a run of eight times as many of its bits
+pub bytes-hit : (s t : List ℕ) (part : Stretch) (at run : ℕ) → HitInBytes s t part at run
+    → Hit s t part (8 * (at - from s part)) (8 * run)
+bytes-hit s t part at run hit =
+    let within = hit .inside in
+    record {
+      bytes-before = hit .bytes-before;
+      bytes-after = hit .bytes-after;
+      few = omega (arith, hit .few);
+      guarded = hit .guarded;
+      inside =
+          record {
+            has = within .has;
+            starts = le-refl (from s part);
+            ends = le-refl (from s part + long s part);
+            damaged = damaged-within (within .damaged) (from s part) (long s part) (within .starts) (within .ends);
+          };
+      flipped =
+          bytes-are-bits (stretch s (from s part) (long s part)) (stretch t (from s part) (long s part)) (at - from s part) run
+          (bytes-stretch (from s part) (long s part) s (hit .bytes-before))
+          (bytes-stretch (from s part) (long s part) t (hit .bytes-after))
+          (damaged-stretch (within .damaged) (from s part) (long s part) (within .starts) (within .ends));
+    }
+
+-- The same in bytes, at most eight of them.
+pub bytes-are-named : BytesAreNamed
+bytes-are-named s t limits table lent packet consumed filled r after part at run taken hit =
+    damage-is-named s t limits table lent packet consumed filled r after part (8 * (at - from s part)) (8 * run) taken (bytes-hit s t part at run hit)
+
+-- Of a call of `decode_with`, and of one of `decode`: tables of one length have one room.
+pub decode-with-names-damage : DecodeWithNamesDamage
+decode-with-names-damage mode ceiling s t limit table lent packet consumed filled r after part at run even taken hit told =
+    damage-is-named s t (limited mode limit ceiling table) table lent packet consumed filled r after part at run taken hit
+    (subst (λ (n : ℕ). Decodes t (record { mode = mode; bytes = limit; parts = ceiling; room = n / entryWords }) lent r after) (sym even) told)
+
+pub decode-names-damage : DecodeNamesDamage
+decode-names-damage mode = decode-with-names-damage mode defaultCeiling

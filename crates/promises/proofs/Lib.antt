@@ -11,6 +11,7 @@ pub mod Prefix
 pub mod Encoded
 pub mod Parts
 pub mod Live
+pub mod Guarded
 pub mod CellRound
 pub mod ContentRound
 pub mod TableContent
@@ -22,6 +23,7 @@ pub mod IgnoredBytes
 pub mod ContentLaws
 pub mod PlainWritten
 pub mod Rowsets
+pub mod OnePlainForm
 pub mod RowsetRefuted
 pub mod Guids
 pub mod Examples

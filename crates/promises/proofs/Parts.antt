@@ -14,10 +14,10 @@ use Rattle.words.proofs.Unique.{holds-kept}
 use Rattle.words.specs.Buffer.{over, stretch}
 use Rattle.words.specs.Decide.{pick, _=?_}
 use Rattle.words.proofs.BufferLaws.{length-over}
-use Rattle.packet.specs.Layout.{nullSize, largestPart, type, count, fields, size, taken, start, whole}
+use Rattle.packet.specs.Layout.{nullSize, largestPart, type, count, fields, size, taken, start, whole, partSum}
 use Rattle.packet.specs.Layout.{isNull}
 use Rattle.packet.specs.Entries.{entryWords, entry, entriesFrom, entries, room}
-use Rattle.packet_read.specs.Reading.{reading}
+use Rattle.packet_read.specs.Reading.{Limits, reading}
 use Rattle.packet.specs.Paper.{fieldsOf}
 use Rattle.packet.specs.declared.Packet.{Packet}
 use Rattle.packet_read.specs.declared.Decoded.the-variants.{Read, More}
@@ -25,11 +25,12 @@ use Rattle.packet_read.specs.Statement.{Decodes}
 use Rattle.packet_read.proofs.EntryLaws.{length-entries, words-at}
 use Rattle.packet_read.proofs.SizeLaws.{taken-below}
 use Rattle.packet_read.proofs.Unique.{paper-injective}
-use Rattle.packet.specs.Entries.{offsetAt, sizeAt, nullAt, outsideAt, isLent}
+use Rattle.packet.specs.Entries.{nullLength, offsetAt, sizeAt, sumAt, nullAt, outsideAt, isLent}
 use Rattle.packet.specs.Wire.{Part, null, bytes, content, partsOf}
 use Rattle.packet.proofs.EntryLaws.{none-past, none-null, none-outside, some-inside, lent-none, lent-some, from-none, from-some}
 use Rattle.promises.specs.Acceptance.{Acceptable, VariableHeader, consumed as consumedOf}
 use Rattle.promises.specs.RoundTrip.{ReadsPart, Valid, given, wire}
+use Rattle.promises.specs.Guarded.{SumsAreTold}
 use Rattle.promises.specs.Parts.{LendsFront, LendsStretch, PartsAreLent, FrontIsLent, Lends, WrittenIsLent, PrefixAsksForMore}
 use Rattle.promises.proofs.Acceptance.{acceptance}
 use Rattle.promises.proofs.Encoded.{written-reads, written-bytes, written-size, given-valid}
@@ -64,6 +65,13 @@ module _ (s table : List ℕ) (n : ℕ) (there : whole s n ≤ length s) (roomy 
   size-is : sizeAt filled i ≡ getD (entry s n i) 1 0
   size-is = word-at 1 (omega arith)
 
+  sum-is : sumAt filled i ≡ partSum s n i
+  sum-is = word-at 2 (omega arith) ∙ go (isNull s i)
+    where
+      go : (b : Bool) → getD (pick b (0 ∷ nullLength ∷ partSum s n i ∷ []) (start s n i ∷ size s i ∷ partSum s n i ∷ [])) 2 0 ≡ partSum s n i
+      go true = refl
+      go false = refl
+
   listed : i < room filled
   listed = rw (length-over (entriesFrom s n 0 n) table (rw (length-entries s n 0 n) (omega arith))) (omega arith)
 
@@ -89,28 +97,40 @@ module _ (s table : List ℕ) (n : ℕ) (there : whole s n ≤ length s) (roomy 
         ),
       )
 
+-- what an accepted packet says of its parts, and what its table holds
+module _ (s : List ℕ) (limits : Limits) (table : List ℕ) (packet : Packet) (consumed : ℕ) (after : List ℕ)
+    (read : Decodes s limits table (Read packet consumed) after) where
+  all : Acceptable s limits × (consumed ≡ consumedOf s) × (fieldsOf packet ≡ fields s)
+  all = acceptance s limits .1 consumed (fieldsOf packet) (sym (read .answer))
+
+  counted : packet .parts ≡ count s
+  counted = ap (λ (l : List ℕ). getD l 6 0) (all .2)
+
+  behind : (i : ℕ) → i < count s → VariableHeader s (count s) limits
+  behind i h = all .0 .1 (rw (lt-ltb 0 (count s) (omega arith)) (or-true (type s =? 0)))
+
+  filled-so : after ≡ over (entries s) table
+  filled-so = read .tables ∙ ap (λ (a : Answer). afterwards a (entries s) table) (sym (read .answer))
+
+-- The table has each part's stored checksum.
+pub sums-are-told : SumsAreTold
+sums-are-told s limits table packet consumed after roomy read i h =
+    let v = behind s limits table packet consumed after read i h in
+    let enough : count s ≤ room table = rw roomy at (v .roomy) in
+    ap (λ (l : List ℕ). sumAt l i) (filled-so s limits table packet consumed after read) ∙ sum-is s table (count s) (v .there) enough i h
+
 -- The lent table of an accepted packet gives back each part: a null one as null, with the empty stretch at the input's
 -- front, and any other as the bytes that stand in the input, there.
 pub parts-are-lent : PartsAreLent
-parts-are-lent s limits table packet consumed after roomy read = (counted, at)
+parts-are-lent s limits table packet consumed after roomy read = (counted s limits table packet consumed after read, at)
   where
-    all : Acceptable s limits × (consumed ≡ consumedOf s) × (fieldsOf packet ≡ fields s)
-    all = acceptance s limits .1 consumed (fieldsOf packet) (sym (read .answer))
-
-    counted : packet .parts ≡ count s
-    counted = ap (λ (l : List ℕ). getD l 6 0) (all .2)
-
-    behind : (i : ℕ) → i < count s → VariableHeader s (count s) limits
-    behind i h = all .0 .1 (rw (lt-ltb 0 (count s) (omega arith)) (or-true (type s =? 0)))
-
     at : (i : ℕ) → i < count s
         → (isNull s i ≡ true → (nullAt after i ≡ true) × LendsFront s after i)
         × (isNull s i ≡ false → (nullAt after i ≡ false) × LendsStretch s after i (start s (count s) i) (size s i))
     at i h =
-        let v = behind i h in
+        let v = behind s limits table packet consumed after read i h in
         let enough : count s ≤ room table = rw roomy at (v .roomy) in
-        let filled : after ≡ over (entries s) table = read .tables ∙ ap (λ (a : Answer). afterwards a (entries s) table) (sym (read .answer)) in
-        rw filled (null-lent s table (count s) (v .there) enough i h, bytes-lent s table (count s) (v .there) enough i h)
+        rw (filled-so s limits table packet consumed after read) (null-lent s table (count s) (v .there) enough i h, bytes-lent s table (count s) (v .there) enough i h)
 
 -- what is read as a part and is lent
 lends : (s after : List ℕ) (n i : ℕ) (p : Part) → length (content p) ≤ largestPart → ReadsPart s n i p

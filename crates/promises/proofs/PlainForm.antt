@@ -1,22 +1,21 @@
 -- The plain form over places, and of what is written. Assumes nothing.
 use mathlib.Core.Path.{_≡_, refl, sym, _∙_, ap}
 use mathlib.Core.Bool.{Bool, true, false, false≢true, _&&_, _||_, not}
-use mathlib.Core.List.{List, [], _∷_, _++_, append-assoc, append-nil}
-use Prim.Native.Nat.{ℕ, zero, suc, _+_, _<_, _≤_}
+use mathlib.Core.List.{List, []}
+use Prim.Native.Nat.{ℕ, zero, suc, _+_, _<_}
 use native.Mathlib.Omega.{arith}
 use native.Mathlib.Nat.{add-zero}
 use borrow.Author.Tests.{ltb-true, ltb-false, lt-ltb, le-ltb, eqb-true, eq-eqb}
 use lib.Dec.{ltb, eqb}
 use lib.ListN.{length, getD}
-use Rattle.words.specs.Decide.{pick, decide}
+use Rattle.words.specs.Decide.{pick}
 use Rattle.words.specs.Answer.{Answer, accepted, more, refused}
-use Rattle.wire.specs.Layout.{maxSize, scalar, blob, boolean, padding, valuesIn, typeAt, aggregateAt, lengthAt, scalarAt, countAt, nextRow, nextRows, nextValue, nextValues}
+use Rattle.wire.specs.Layout.{maxSize, blob, boolean, padding, valuesIn, typeAt, aggregateAt, lengthAt, scalarAt, countAt, nextRow, nextRows, nextValue, nextValues}
 use Rattle.wire_read.specs.Stages.{readRowset}
-use Rattle.wire_read.specs.Plain.{zeros, plainScalar, plainBlob, plainValue, plainValues, plainRows, isAccepted, accepts, plain}
+use Rattle.wire_read.specs.Plain.{zeros, plainValue, plainValues, plainRows, isAccepted, accepts, plain}
 use Rattle.wire_read.proofs.ReadingLaws.{accepts-walks}
-use Rattle.promises.specs.RowsetReader.{Acceptable}
 use Rattle.promises.specs.Rowsets.{PlainAt, PlainExactly}
-use Rattle.promises.proofs.CellRound.{by-test, blob-no-scalar}
+use Rattle.promises.proofs.CellRound.{by-test}
 use Rattle.promises.proofs.RowsetWriter.{lets}
 use Rattle.promises.proofs.RowsetReader.{acceptable, rowset-passes}
 
@@ -53,8 +52,8 @@ or-else : (a b : Bool) → (a ≡ true → b ≡ true) → (not a || b) ≡ true
 or-else true b h = h refl
 or-else false b h = refl
 
-boolean-scalar : (type : ℕ) → type ≡ boolean → scalar type ≡ true
-boolean-scalar type e = rw e
+boolean-no-blob : (type : ℕ) → type ≡ boolean → blob type ≡ false
+boolean-no-blob type e = rw e
 
 module _ (s : List ℕ) (at : ℕ) where
   value-plain : plainValue s at ≡ true → PlainAt s at
@@ -63,23 +62,21 @@ module _ (s : List ℕ) (at : ℕ) where
       let parts = and _ _ e in
       record {
         aggregate-byte = omega (arith, ltb-true (aggregateAt s at) 2 (parts .0));
-        length-word = λ is. eqb-true (lengthAt s at) 0 (and _ _ (rw is at (parts .1)) .0);
+        length-word = λ isnt. eqb-true (lengthAt s at) 0 (and _ _ (rw isnt at (parts .1)) .0);
         boolean-word = λ is.
-            let word = either (eqb (typeAt s at) boolean) (ltb (scalarAt s at) 2) (and (eqb (lengthAt s at) 0) _ (rw (boolean-scalar (typeAt s at) is) at (parts .1)) .1) (eq-eqb (typeAt s at) boolean is) in
+            let word = either (eqb (typeAt s at) boolean) (ltb (scalarAt s at) 2) (and (eqb (lengthAt s at) 0) _ (rw (boolean-no-blob (typeAt s at) is) at (parts .1)) .1) (eq-eqb (typeAt s at) boolean is) in
             omega (arith, ltb-true (scalarAt s at) 2 word);
-        padding-zero = λ is. zeros-each s (padding (lengthAt s at)) (at + 8 + lengthAt s at) (rw (blob-no-scalar (typeAt s at) is, is) at (parts .1));
+        padding-zero = λ is. zeros-each s (padding (lengthAt s at)) (at + 8 + lengthAt s at) (rw is at (parts .1));
       }
 
   plain-value : PlainAt s at → plainValue s at ≡ true
   unfolding plainValue
   plain-value p =
       rw (lt-ltb (aggregateAt s at) 2 (omega (arith, p .aggregate-byte)))
-      (by-test (scalar (typeAt s at))
-      (λ is. rw (is, eq-eqb (lengthAt s at) 0 (p .length-word is))
-      (or-else (eqb (typeAt s at) boolean) (ltb (scalarAt s at) 2) (λ b. lt-ltb (scalarAt s at) 2 (omega (arith, p .boolean-word (eqb-true (typeAt s at) boolean b))))))
-      (λ none. by-test (blob (typeAt s at))
-      (λ is. rw (none, is) (each-zeros s (padding (lengthAt s at)) (at + 8 + lengthAt s at) (p .padding-zero is)))
-      (λ isnt. rw (none, isnt))))
+      (by-test (blob (typeAt s at))
+      (λ is. rw is (each-zeros s (padding (lengthAt s at)) (at + 8 + lengthAt s at) (p .padding-zero is)))
+      (λ isnt. rw (isnt, eq-eqb (lengthAt s at) 0 (p .length-word isnt))
+      (or-else (eqb (typeAt s at) boolean) (ltb (scalarAt s at) 2) (λ b. lt-ltb (scalarAt s at) 2 (omega (arith, p .boolean-word (eqb-true (typeAt s at) boolean b)))))))
 
 -- the values of a row, and the rows, each by its place
 module _ (s : List ℕ) where
@@ -94,7 +91,7 @@ module _ (s : List ℕ) where
   each-values zero at h = refl
   each-values (suc n) at h = rw (plain-value s at (h 0 (omega arith))) (each-values n (nextValue s at) (λ j less. h (suc j) (omega arith)))
 
-  rows-each : (n at : ℕ) → plainRows s n at ≡ true → (i j : ℕ) → i < n → j < valuesIn (countAt s (nextRows s i at)) → PlainAt s (nextValues s j (nextRows s i at + 8))
+  pub rows-each : (n at : ℕ) → plainRows s n at ≡ true → (i j : ℕ) → i < n → j < valuesIn (countAt s (nextRows s i at)) → PlainAt s (nextValues s j (nextRows s i at + 8))
   unfolding plainRows nextRows
   rows-each zero at e i j h g = absurd (omega arith)
   rows-each (suc n) at e zero j h g = values-each (valuesIn (countAt s at)) (at + 8) (both (plainValues s (valuesIn (countAt s at)) (at + 8)) (plainRows s n (nextRow s at)) e .0) j g

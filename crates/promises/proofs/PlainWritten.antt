@@ -1,8 +1,8 @@
 -- What is written has the plain form. Assumes nothing.
 use mathlib.Core.Path.{_≡_, refl, sym, _∙_, ap}
-use mathlib.Core.Bool.{true, false}
-use mathlib.Core.List.{List, [], _∷_, _++_, append-assoc, append-nil}
-use Prim.Native.Nat.{ℕ, zero, suc, _+_, _*_, _^_, _<_, _≤_}
+use mathlib.Core.Bool.{true}
+use mathlib.Core.List.{List, [], _∷_, _++_, append-assoc}
+use Prim.Native.Nat.{ℕ, zero, suc, _+_, _^_, _<_, _≤_}
 use native.Mathlib.Nat.{add-zero}
 use native.Mathlib.Omega.{arith}
 use lib.Dec.{eqb}
@@ -11,11 +11,11 @@ use lib.Seq.{getD-drop}
 use borrow.Author.Tests.{lt-ltb, le-ltb, eq-eqb, ne-eqb, eqb-true}
 use Rattle.words.specs.Answer.{accepted}
 use Rattle.words.specs.Word.{word as wordAt, bytesOf}
-use Rattle.wire.specs.Layout.{nullMark, maxSize, maxValues, boolean, scalar, blob, padding, valuesIn, typeAt, aggregateAt, lengthAt, scalarAt, countAt, nextValue, nextValues, nextRow}
-use Rattle.wire_read.specs.Plain.{zeros, plainScalar, plainBlob, plainValue, plainValues, plainRows, accepts, plain}
+use Rattle.wire.specs.Layout.{nullMark, maxSize, maxValues, boolean, padding, valuesIn, typeAt, aggregateAt, lengthAt, scalarAt, countAt, nextValue, nextRow}
+use Rattle.wire_read.specs.Plain.{zeros, plainValue, plainValues, plainRows, plain}
 use Rattle.wire_read.proofs.ReadingLaws.{accepts-walks}
-use Rattle.wire.specs.Content.{Content, nothing, word, bytes, Cell, Row, null, values, lengthWord, contentBytes, cellBytes, cellsBytes, rowBytes, rowsBytes, bytesOfRows, FitsType, GoodCell, GoodCells, GoodRow, GoodRows, Writable}
-use Rattle.promises.proofs.CellRound.{by-test, word-stands, drop-behind, scalar-no-blob, blob-no-scalar, reads-type, reads-aggregate, reads-length, behind-header, tail-stands}
+use Rattle.wire.specs.Content.{Content, nothing, word, bytes, Cell, Row, null, values, lengthWord, contentBytes, cellBytes, cellsBytes, rowBytes, rowsBytes, bytesOfRows, FitsType, GoodCells, GoodRow, GoodRows, Writable}
+use Rattle.promises.proofs.CellRound.{by-test, word-stands, drop-behind, scalar-no-blob, reads-type, reads-aggregate, reads-length, behind-header, tail-stands}
 use Rattle.promises.proofs.ContentRound.{count-is, behind-count, row-round, reads-count, reads-passes, behind}
 
 -- zeros that stand at `at`
@@ -29,13 +29,13 @@ zeros-stand s tail (suc n) at e =
 content-plain : (type : ℕ) (c : Content) → FitsType type c → (s tail : List ℕ) (at : ℕ) → typeAt s at ≡ type → lengthAt s at ≡ lengthWord c → aggregateAt s at ≤ 1
     → drop (at + 8) s ≡ contentBytes c ++ tail → plainValue s at ≡ true
 unfolding plainValue
-content-plain type nothing e s tail at t n flags there = rw (lt-ltb (aggregateAt s at) 2 (omega arith), t, e)
+content-plain type nothing e s tail at t n flags there = rw (lt-ltb (aggregateAt s at) 2 (omega arith), t, e, n)
 content-plain type (word w) fits s tail at t n flags there =
     let is : scalarAt s at ≡ w = ap (wordAt 8 s) (sym (add-zero (at + 8))) ∙ word-stands 8 0 w s [] tail (at + 8) there refl (fits .1) in
-    rw (lt-ltb (aggregateAt s at) 2 (omega arith), t, fits .0, n, is)
+    rw (lt-ltb (aggregateAt s at) 2 (omega arith), t, scalar-no-blob type (fits .0), n, is)
     (by-test (eqb type boolean) (λ b. rw (b, lt-ltb w 2 (omega (arith, fits .2 (eqb-true type boolean b))))) (λ b. rw b))
 content-plain type (bytes b) fits s tail at t n flags there =
-    rw (lt-ltb (aggregateAt s at) 2 (omega arith), t, blob-no-scalar type (fits .0), fits .0, n)
+    rw (lt-ltb (aggregateAt s at) 2 (omega arith), t, fits .0, n)
     (zeros-stand s tail (padding (length b)) (at + 8 + length b)
     (drop-behind s b (replicate (padding (length b)) 0 ++ tail) (at + 8) (length b) (there ∙ append-assoc b (replicate (padding (length b)) 0) tail) refl))
 
@@ -62,7 +62,7 @@ module _ (s : List ℕ) where
       rw (count-is s n fits (cellsBytes cells ++ tail) at nested, ne-eqb n nullMark (λ e. omega arith))
       (cells-plain cells (at + 8) tail (good .1) (behind-count s n fits (cellsBytes cells ++ tail) at nested))
 
-  rows-plain : (rows : List Row) (at : ℕ) (tail : List ℕ) → GoodRows rows → drop at s ≡ rowsBytes rows ++ tail → plainRows s (length rows) at ≡ true
+  pub rows-plain : (rows : List Row) (at : ℕ) (tail : List ℕ) → GoodRows rows → drop at s ≡ rowsBytes rows ++ tail → plainRows s (length rows) at ≡ true
   unfolding rowsBytes plainRows
   rows-plain [] at tail good stands = refl
   rows-plain (row ∷ rows) at tail good stands =

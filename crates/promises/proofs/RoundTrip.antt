@@ -140,7 +140,7 @@ module _ (m : Message) (tail : List ℕ) where
       is-size i h =
           past-header 4 (4 * i) ∙ ap (λ (l : List ℕ). word 4 l (4 * i)) (append-assoc (sizes ps) (sums ps) behind) ∙ sizes-at ps (sums ps ++ behind) i h (ok .small i h)
 
-      is-sum : (i : ℕ) → i < n → partSum s n i ≡ sumWord (getD ps i null)
+      pub is-sum : (i : ℕ) → i < n → partSum s n i ≡ sumWord (getD ps i null)
       is-sum i h =
           ap (word 8 s) (add-assoc 36 (4 * n) (8 * i)) ∙ past-header 8 (4 * n + 8 * i) ∙ ap (λ (l : List ℕ). word 8 l (4 * n + 8 * i)) (append-assoc (sizes ps) (sums ps) behind)
           ∙ word-past-front 8 (4 * n) (8 * i) (sizes ps) (sums ps ++ behind) (length-sizes ps) ∙ sums-at ps behind i h

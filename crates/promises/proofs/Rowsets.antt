@@ -1,31 +1,27 @@
 -- Every row in its place: the rowsets' theorems, from the laws of the crates that define reading and writing. Assumes nothing.
 use mathlib.Core.Path.{_≡_, refl, sym, _∙_, ap}
-use mathlib.Core.Bool.{Bool, true}
 use mathlib.Core.List.{List, [], _∷_, _++_}
-use Prim.Native.Nat.{ℕ, _+_, _*_, _/_, _^_, _<_, _≤_}
+use Prim.Native.Nat.{ℕ, _+_, _*_, _/_, _<_, _≤_}
 use native.Mathlib.Omega.{arith}
 use lib.ListN.{length, getD, take, drop, length-drop}
 use lib.Seq.{take-at, drop-at, getD-take, take-append-le, drop-append-le}
 use Rattle.words.specs.Answer.{Answer, accepted, afterwards}
 use Rattle.words.specs.Buffer.{stretch, over}
-use Rattle.wire.specs.Layout.{maxSize, entryWords, valuesIn, countAt, nextRows, valueCount, entries, rowWords, valueWords}
+use Rattle.wire.specs.Layout.{entryWords, valuesIn, countAt, nextRows, valueCount, entries, rowWords, valueWords}
 use Rattle.wire.proofs.LayoutLaws.{length-rowWords, length-valueWords}
-use Rattle.wire_read.specs.Stages.{readRowset}
-use Rattle.wire_read.specs.Reading.{reading, valuesOf}
+use Rattle.wire_read.specs.Reading.{valuesOf}
 use Rattle.wire_read.specs.Paper.{paperDecoded}
 use Rattle.wire_read.specs.Statement.{Decodes}
-use Rattle.wire_read.specs.declared.rowset.Decoded.{Decoded}
 use Rattle.wire_read.specs.declared.rowset.Decoded.the-variants.{Read}
 use Rattle.wire_read.proofs.DecodeLaws.{decodes-told}
 use Rattle.wire_read.proofs.RowLaws.{row-word, row-entries}
 use Rattle.wire_write.specs.declared.write.Encoded.the-variants.{Written}
-use Rattle.wire_write.specs.Statement.{Encodes}
 use Rattle.wire_check.specs.Writing.{total}
-use Rattle.wire.specs.Content.{Row, null, rowsAt, rowsOf, rowsIn, bytesOfRows, Writable}
+use Rattle.wire.specs.Content.{Row, rowsOf, rowsIn, bytesOfRows, Writable}
 use Rattle.promises.specs.RowsetReader.{Acceptable, Roomy}
-use Rattle.promises.specs.RowsetWriter.{tableBytes, Encodable}
-use Rattle.promises.specs.Rowsets.{RowsInOrder, RowsByPlace, RowsetRoundTrip, RowsetEncodeThenDecode, WrittenIsPlain, PlainAt}
-use Rattle.promises.proofs.ContentRound.{reads-count, reads-passes, reads-rows}
+use Rattle.promises.specs.RowsetWriter.{Encodable}
+use Rattle.promises.specs.Rowsets.{RowsInOrder, RowsByPlace, RowsetRoundTrip, RowsetEncodeThenDecode, WrittenIsPlain}
+use Rattle.promises.proofs.ContentRound.{reads-passes, reads-rows}
 use Rattle.promises.proofs.ContentLaws.{rowsAt-place, total-read, values-before, same-words}
 use Rattle.promises.proofs.TableContent.{tables-filled}
 use Rattle.promises.proofs.TableBytes.{content-writable}
@@ -50,6 +46,16 @@ row-within : (s : List ℕ) (n i at : ℕ) → i < n
     → entryWords * valueCount s i at + entryWords * valuesIn (countAt s (nextRows s i at)) ≤ length (valueWords s n at)
 row-within s n i at h = rw (length-valueWords s n at) (omega (arith, values-before s n i at h))
 
+-- the fronts of the tables that reading filled
+pub read-fronts : (s rows values : List ℕ) (n m : ℕ) (rows′ values′ : List ℕ) → Decodes s rows values (Read n m) rows′ values′
+    → (take n rows′ ≡ rowWords s (countAt s 0) 8) × (take (entryWords * m) values′ ≡ valueWords s (countAt s 0) 8)
+read-fronts s rows values n m rows′ values′ decodes =
+    let tables = decodes-told s rows values (Read n m) rows′ values′ decodes in
+    let told = rowset-reader-accepts s rows values (Read n m) rows′ values′ decodes .0 n m refl in (
+      ap (take n) (tables .0) ∙ front (rowWords s (countAt s 0) 8) rows n (length-rowWords s (countAt s 0) 8 ∙ sym (told .2)),
+      ap (take (entryWords * m)) (tables .1) ∙ front (valueWords s (countAt s 0) 8) values (entryWords * m) (length-valueWords s (countAt s 0) 8 ∙ ap (λ (k : ℕ). entryWords * k) (sym (told .3))),
+    )
+
 -- "I prepared fisheries and opened dentistry" cannot happen: row i stands at row i.
 pub rows-in-order : RowsInOrder
 rows-in-order s rows values n m rows′ values′ decodes =
@@ -59,13 +65,12 @@ rows-in-order s rows values n m rows′ values′ decodes =
     let all : m ≡ valuesOf s = told .3 in
     let rowLength : length (rowWords s (countAt s 0) 8) ≡ n = length-rowWords s (countAt s 0) 8 ∙ sym count in
     let valueLength : length (valueWords s (countAt s 0) 8) ≡ entryWords * m = length-valueWords s (countAt s 0) 8 ∙ ap (λ (k : ℕ). entryWords * k) (sym all) in
-    let rowFront : take n rows′ ≡ rowWords s (countAt s 0) 8 = ap (take n) (tables .0) ∙ front (rowWords s (countAt s 0) 8) rows n rowLength in
-    let valueFront : take (entryWords * m) values′ ≡ valueWords s (countAt s 0) 8 = ap (take (entryWords * m)) (tables .1) ∙ front (valueWords s (countAt s 0) 8) values (entryWords * m) valueLength in (
+    let fronts = read-fronts s rows values n m rows′ values′ decodes in (
       count,
       all,
-      (λ i less. sym (getD-take n rows′ i 0 less) ∙ ap (λ (l : List ℕ). getD l i 0) rowFront ∙ row-word s (countAt s 0) i 8 (rw count at less)),
+      (λ i less. sym (getD-take n rows′ i 0 less) ∙ ap (λ (l : List ℕ). getD l i 0) (fronts .0) ∙ row-word s (countAt s 0) i 8 (rw count at less)),
       (λ i less. row-stretch s i (rw count at less) values′ values (tables .1)),
-      ap (λ (l : List ℕ). rowsIn s l values′) rowFront ∙ tables-filled s values′ (drop (length (valueWords s (countAt s 0) 8)) values) (tables .1),
+      ap (λ (l : List ℕ). rowsIn s l values′) (fronts .0) ∙ tables-filled s values′ (drop (length (valueWords s (countAt s 0) 8)) values) (tables .1),
       ap (drop n) (tables .0) ∙ kept (rowWords s (countAt s 0) 8) rows n rowLength,
       ap (drop (entryWords * m)) (tables .1) ∙ kept (valueWords s (countAt s 0) 8) values (entryWords * m) valueLength,
     )

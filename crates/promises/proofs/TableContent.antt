@@ -20,7 +20,7 @@ use Rattle.promises.proofs.CellRound.{by-test, drop-behind}
 -- The tables that reading fills hold the content of the input
 
 -- word i of an entry that stands at the word k
-word-there : (table : List ℕ) (k i : ℕ) (ws : List ℕ) → drop k table ≡ ws → getD table (k + i) 0 ≡ getD ws i 0
+pub word-there : (table : List ℕ) (k i : ℕ) (ws : List ℕ) → drop k table ≡ ws → getD table (k + i) 0 ≡ getD ws i 0
 word-there table k i ws e = sym (getD-drop k table i 0) ∙ ap (λ (l : List ℕ). getD l i 0) e
 
 module _ (s : List ℕ) where
@@ -40,11 +40,11 @@ module _ (s : List ℕ) where
       let content : contentIn s (getD table (k + 1) 0) (getD table (k + 3) 0) (getD table (k + 4) 0) ≡ contentAt s at = rw (second, last, end) (content-same at) in
       λ i. record { id = first i; type = second i; aggregate = third i; content = content i }
 
-  behind-entry : (table more : List ℕ) (k at : ℕ) → drop k table ≡ entry s at more → drop (k + entryWords) table ≡ more
+  pub behind-entry : (table more : List ℕ) (k at : ℕ) → drop k table ≡ entry s at more → drop (k + entryWords) table ≡ more
   unfolding entry
   behind-entry table more k at stands = sym (drop-drop entryWords k table) ∙ ap (drop entryWords) stands
 
-  entry-append : (at : ℕ) (more tail : List ℕ) → entry s at more ++ tail ≡ entry s at (more ++ tail)
+  pub entry-append : (at : ℕ) (more tail : List ℕ) → entry s at more ++ tail ≡ entry s at (more ++ tail)
   unfolding entry
   entry-append at more tail = refl
 

@@ -15,7 +15,7 @@ use Rattle.packet_read.specs.Reading.{reading}
 use Rattle.packet_write.specs.Writing.{writing}
 use Rattle.packet.specs.Paper.{typeNumber}
 use Rattle.words.proofs.BufferLaws.{fitted-short}
-use Rattle.guid.specs.Text.{textOf}
+use Rattle.guid_text.specs.Text.{textOf}
 use Rattle.packet.specs.Layout.{count}
 use Rattle.packet.specs.Entries.{entryWords, entries}
 use Rattle.packet_read.proofs.EntryLaws.{length-entries}

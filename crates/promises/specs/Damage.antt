@@ -1,11 +1,12 @@
--- Demand 3: damage is named. Take an input that the packet reader accepts. Change it only inside one run of at most
--- eight consecutive bytes that lies wholly in one checksummed stretch whose stored word is not 0. Then the reader
--- refuses it by that stretch's checksum. One statement over the stretch and over the kind of damage: a new refusal of
--- the fixed header that comes before 5 is one line of `Names`. Assumes nothing.
+-- Demand 3: damage is named. Take an input that the packet reader accepts. Change it only inside one run of at most 64
+-- consecutive bits, each byte's high bit first, that lies wholly in one checksummed stretch whose stored word is not 0.
+-- Then the reader refuses it by that stretch's checksum. One statement over the stretch and over the kind of damage: a
+-- new refusal of the fixed header that comes before 5 is one line of `Names`. Assumes nothing.
 use Prim.Native.Nat.{ℕ, _+_, _*_, _≤_, _<_}
 use mathlib.Core.Bool.{true}
 use mathlib.Core.List.{List, [], _∷_}
 use mathlib.Core.Path.{_≡_}
+use lib.ListN.{length}
 use Rattle.words.specs.Word.{Bytes}
 use Rattle.words.specs.Answer.{Answer, refused, refuse}
 use Rattle.words.specs.Buffer.{stretch}
@@ -20,8 +21,9 @@ use Rattle.packet.specs.Mode.{isRetired}
 use Rattle.packet_read.specs.declared.Decoded.{Decoded}
 use Rattle.packet_read.specs.declared.Decoded.the-variants.{Read}
 use Rattle.packet_read.specs.Paper.{paper}
-use Rattle.packet_read.specs.Statement.{Decodes}
+use Rattle.packet_read.specs.Statement.{Decodes, defaultCeiling}
 use Rattle.packet_read.specs.Reading.{Limits, limited}
+use Rattle.promises.specs.BitRuns.{bits}
 
 -- the checksummed stretches of a packet
 pub data Stretch : Type 0 where
@@ -81,8 +83,18 @@ pub record Confined (s t : List ℕ) (part : Stretch) (at run : ℕ) : Type 0 wh
   pub inside : Inside s t part at run
   pub changed : checksum (stretch s (from s part) (long s part)) ≡ checksum (stretch t (from s part) (long s part)) → ⊥
 
--- bytes, of which at most eight are altered
+-- t is s but for one stretch, and of the bits of that stretch at most 64 differ, all of them among the `run` from its
+-- bit `at` on
 pub record Hit (s t : List ℕ) (part : Stretch) (at run : ℕ) : Type 0 where
+  pub bytes-before : Bytes s
+  pub bytes-after : Bytes t
+  pub few : run ≤ 64
+  pub guarded : stored s part ≡ 0 → ⊥
+  pub inside : Inside s t part (from s part) (long s part)
+  pub flipped : Damaged at run (bits (stretch s (from s part) (long s part))) (bits (stretch t (from s part) (long s part)))
+
+-- the same in bytes, of which at most eight are altered, from byte `at` of the input on
+pub record HitInBytes (s t : List ℕ) (part : Stretch) (at run : ℕ) : Type 0 where
   pub bytes-before : Bytes s
   pub bytes-after : Bytes t
   pub few : run ≤ 8
@@ -108,6 +120,28 @@ ConfinedIsNamed = NamedWhere Confined
 abbrev pub DamageIsNamed : Type 0
 DamageIsNamed = NamedWhere Hit
 
+-- as document 01 counts it: eight bytes are 64 bits
+abbrev pub BytesAreNamed : Type 0
+BytesAreNamed = NamedWhere HitInBytes
+
+-- of `decode_with` by the limits of its call, in either mode and under whichever ceiling, where the tables lent have one length
+abbrev pub NamedUnder : Mode → ℕ → Type 0
+NamedUnder mode ceiling =
+    (s t : List ℕ) (limit : ℕ) (table lent : List ℕ) (packet : Packet) (consumed : ℕ) (filled : List ℕ)
+    (r : Decoded) (after : List ℕ) (part : Stretch) (at run : ℕ)
+    → length table ≡ length lent
+    → Decodes s (limited mode limit ceiling table) table (Read packet consumed) filled
+    → Hit s t part at run
+    → Decodes t (limited mode limit ceiling lent) lent r after
+    → Names t mode part (paper r) × (after ≡ lent)
+
+abbrev pub DecodeWithNamesDamage : Type 0
+DecodeWithNamesDamage = (mode : Mode) (ceiling : ℕ) → NamedUnder mode ceiling
+
+-- and of `decode` by its own
+abbrev pub DecodeNamesDamage : Type 0
+DecodeNamesDamage = (mode : Mode) → NamedUnder mode defaultCeiling
+
 -- the limits of a call in live mode that allows no bytes, no parts and lends no table
 abbrev pub nothing : Limits
 nothing = limited Live 0 0 []
@@ -118,4 +152,4 @@ pub record DamageHappens : Type 0 where
   pub received : List ℕ
   pub packet : Packet
   pub read : Decodes sent nothing [] (Read packet fixedHeaderSize) []
-  pub hit : Hit sent received fixedHeader 8 1
+  pub hit : Hit sent received fixedHeader 71 1

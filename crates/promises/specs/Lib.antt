@@ -4,6 +4,7 @@ pub mod Checksum
 pub mod BitRuns
 pub mod Damage
 pub mod Parts
+pub mod Guarded
 pub mod RoundTrip
 pub mod Live
 pub mod RowsetWriter

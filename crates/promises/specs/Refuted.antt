@@ -1,13 +1,15 @@
 -- The promises with one word changed, each of which is false: a theorem beside it has the witness. So each of those
 -- words is needed. Assumes nothing.
-use Prim.Native.Nat.{ℕ, _+_, _≤_}
-use mathlib.Core.List.{List, [], _∷_}
+use Prim.Native.Nat.{ℕ, zero, suc, _+_, _*_, _/_, _%_, _≤_}
+use mathlib.Core.List.{List, [], _∷_, _++_}
 use mathlib.Core.Path.{_≡_}
 use lib.ListN.{length, take}
 use Rattle.words.specs.Word.{Bytes}
 use Rattle.words.specs.Answer.{more, refuse}
+use Rattle.words.specs.Buffer.{stretch}
 use Rattle.crc64.specs.Polynomial.{checksum}
 use Rattle.crc64.specs.Damage.{Damaged}
+use Rattle.crc64.specs.Statement.{ChecksumIs}
 use Rattle.packet.specs.Layout.{count, fixedSum, fixedFields}
 use Rattle.packet_read.specs.Reading.{Limits, reading}
 use Rattle.packet.specs.declared.Packet.{Packet}
@@ -16,43 +18,85 @@ use Rattle.packet_read.specs.declared.Decoded.{Decoded}
 use Rattle.packet_read.specs.declared.Decoded.the-variants.{Read}
 use Rattle.packet_read.specs.Paper.{paper}
 use Rattle.packet_read.specs.Statement.{Decodes}
+use Rattle.promises.specs.BitRuns.{bits, Unseen}
 use Rattle.promises.specs.Damage.{Stretch, fixedHeader, Has, from, long, stored, Inside, Hit, Names, NamedWhere}
 use Rattle.promises.specs.RoundTrip.{Message, wire, wireSize, Valid, Held}
 
--- a run of nine bytes: 01 e5 43 27 97 65 92 78 81 over zeros leaves the checksum
-pub record HitOfNine (s t : List ℕ) (part : Stretch) (at run : ℕ) : Type 0 where
+-- a stretch of s as it stands in s and in t
+abbrev Both : (List ℕ → List ℕ) → List ℕ → List ℕ → Stretch → ℕ → ℕ → Type 0
+Both order s t part at run =
+    Damaged at run (order (stretch s (from s part) (long s part))) (order (stretch t (from s part) (long s part)))
+
+-- a run of 65 bits: the polynomial with its top term leaves the checksum
+pub record HitOf65 (s t : List ℕ) (part : Stretch) (at run : ℕ) : Type 0 where
   pub bytes-before : Bytes s
   pub bytes-after : Bytes t
-  pub few : run ≤ 9
+  pub few : run ≤ 65
   pub guarded : stored s part ≡ 0 → ⊥
-  pub inside : Inside s t part at run
+  pub inside : Inside s t part (from s part) (long s part)
+  pub flipped : Both bits s t part at run
 
-abbrev pub NineBytesAreNamed : Type 0
-NineBytesAreNamed = NamedWhere HitOfNine
+abbrev pub SixtyFiveAreNamed : Type 0
+SixtyFiveAreNamed = NamedWhere HitOf65
+
+-- the bits of each byte with the low one first
+unfoldable pub lowFirst : ℕ → ℕ → List ℕ
+lowFirst zero n = []
+lowFirst (suc k) n = n % 2 ∷ lowFirst k (n / 2)
+
+unfoldable pub lowBits : List ℕ → List ℕ
+lowBits [] = []
+lowBits (b ∷ s) = lowFirst 8 b ++ lowBits s
+
+pub record HitLowFirst (s t : List ℕ) (part : Stretch) (at run : ℕ) : Type 0 where
+  pub bytes-before : Bytes s
+  pub bytes-after : Bytes t
+  pub few : run ≤ 64
+  pub guarded : stored s part ≡ 0 → ⊥
+  pub inside : Inside s t part (from s part) (long s part)
+  pub flipped : Both lowBits s t part at run
+
+abbrev pub LowFirstIsNamed : Type 0
+LowFirstIsNamed = NamedWhere HitLowFirst
 
 -- a stretch whose stored word is 0
 pub record HitUnguarded (s t : List ℕ) (part : Stretch) (at run : ℕ) : Type 0 where
   pub bytes-before : Bytes s
   pub bytes-after : Bytes t
-  pub few : run ≤ 8
-  pub inside : Inside s t part at run
+  pub few : run ≤ 64
+  pub inside : Inside s t part (from s part) (long s part)
+  pub flipped : Both bits s t part at run
 
 abbrev pub UnguardedIsNamed : Type 0
 UnguardedIsNamed = NamedWhere HitUnguarded
 
--- a run that begins in its stretch and reaches past it
+-- a run of the input's bits that begins in its stretch and reaches past it
 pub record HitPast (s t : List ℕ) (part : Stretch) (at run : ℕ) : Type 0 where
   pub bytes-before : Bytes s
   pub bytes-after : Bytes t
-  pub few : run ≤ 8
+  pub few : run ≤ 64
   pub guarded : stored s part ≡ 0 → ⊥
   pub has : Has s part
-  pub starts : from s part ≤ at
-  pub ends : at ≤ from s part + long s part
-  pub damaged : Damaged at run s t
+  pub starts : 8 * from s part ≤ at
+  pub ends : at ≤ 8 * (from s part + long s part)
+  pub flipped : Damaged at run (bits s) (bits t)
 
 abbrev pub PastIsNamed : Type 0
 PastIsNamed = NamedWhere HitPast
+
+-- 64 bits are too many already
+pub record UnseenIn64 (a : List ℕ) (from : ℕ) : Type 0 where
+  pub other : List ℕ
+  pub are-bytes : Bytes other
+  pub damaged : Damaged from 64 (bits a) (bits other)
+  pub same-checksum : (sum : ℕ) → ChecksumIs a sum → ChecksumIs other sum
+
+abbrev pub SixtyFourUnseen : Type 0
+SixtyFourUnseen = (a : List ℕ) (from : ℕ) → Bytes a → from + 64 ≤ 8 * length a → UnseenIn64 a from
+
+-- a stretch of eight bytes has unseen damage too
+abbrev pub EightBytesUnseen : Type 0
+EightBytesUnseen = (a : List ℕ) → Bytes a → length a ≡ 8 → Unseen a 0
 
 -- damage to the fixed header is always named by 5
 abbrev pub AlwaysBy5 : Type 0

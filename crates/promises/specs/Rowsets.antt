@@ -1,20 +1,22 @@
 -- Demand 2 for rowsets: every row in its place. A lookup answers one row per event in the order asked, and a null row for an
 -- event without terms. If one were dropped, every later glossary would appear under the wrong title. Assumes nothing.
 use Prim.Native.Nat.{ℕ, _+_, _*_, _/_, _^_, _≤_, _<_}
-use mathlib.Core.Bool.{Bool, true}
-use mathlib.Core.List.{List}
+use mathlib.Core.Bool.{Bool, true, false}
+use mathlib.Core.List.{List, []}
 use mathlib.Core.Path.{_≡_}
 use lib.ListN.{length, getD, take, drop}
 use Rattle.words.specs.Buffer.{stretch, over}
-use Rattle.wire.specs.Layout.{maxSize, entryWords, boolean, scalar, blob, padding, flag, valuesIn, idAt, typeAt, aggregateAt, lengthAt, scalarAt, countAt, valueCount, entries}
+use Rattle.words.specs.Word.{Bytes}
+use Rattle.wire.specs.Layout.{maxSize, entryWords, boolean, scalar, blob, padding, flag, valuesIn, typeAt, aggregateAt, lengthAt, scalarAt, countAt, valueCount, entries}
 use Rattle.wire_read.specs.Reading.{valuesOf}
 use Rattle.wire_read.specs.Statement.{Decodes, TellsPlain}
 use Rattle.wire_read.specs.declared.rowset.Decoded.{Decoded}
-use Rattle.wire_read.specs.declared.rowset.Decoded.the-variants.{Read}
-use Rattle.wire_write.specs.declared.write.Encoded.the-variants.{Written}
+use Rattle.wire_read.specs.declared.rowset.Decoded.the-variants.{Read, Refused as NotRead}
+use Rattle.wire_write.specs.declared.write.Encoded.{Encoded}
+use Rattle.wire_write.specs.declared.write.Encoded.the-variants.{Written, Refused as NotWritten}
 use Rattle.wire_write.specs.Statement.{Encodes}
 use Rattle.wire.specs.Content.{Row, null, rowAt, rowsOf, rowsIn, bytesOfRows, Writable}
-use Rattle.promises.specs.RowsetReader.{rowPlace, EachRow, EachValue, Acceptable}
+use Rattle.promises.specs.RowsetReader.{rowPlace, EachRow, EachValue, Acceptable, Roomy}
 
 -- What `decode_rowset` reads: as many rows and values as it tells; row i of the tables is what stands at row i of the input, for
 -- every i, a null row too, its word the count that stands there and its entries those of the values behind that count; together
@@ -87,11 +89,12 @@ IgnoredBytes =
     → Decodes s rows values r rows′ values′ → Decodes t rows values r′ rows″ values″
     → (r ≡ r′) × (rows′ ≡ rows″) × (values′ ≡ values″))
 
--- The plain form, document 01: "every aggregate byte is 0 or 1, the four scalar types have length word 0, boolean words are 0 or 1,
--- and padding is zero"
+-- The plain form, document 01: "every aggregate byte is 0 or 1, the four scalar types have length word 0, boolean words
+-- are 0 or 1, and padding is zero"; document 02, A2, of a Null's length word: "That word must be zero too." So every type
+-- but the blobs' has 0 there.
 pub record PlainAt (s : List ℕ) (at : ℕ) : Type 0 where
   pub aggregate-byte : aggregateAt s at ≤ 1
-  pub length-word : scalar (typeAt s at) ≡ true → lengthAt s at ≡ 0
+  pub length-word : blob (typeAt s at) ≡ false → lengthAt s at ≡ 0
   pub boolean-word : typeAt s at ≡ boolean → scalarAt s at ≤ 1
   pub padding-zero : blob (typeAt s at) ≡ true → (i : ℕ) → i < padding (lengthAt s at) → getD s (at + 8 + lengthAt s at + i) 0 ≡ 0
 
@@ -106,3 +109,35 @@ PlainExactly =
 abbrev pub WrittenIsPlain : Type 0
 WrittenIsPlain =
     (rows : List Row) (says : Bool) → Writable rows → length (bytesOfRows rows) ≤ maxSize → TellsPlain (bytesOfRows rows) says → says ≡ true
+
+-- What was read: the entries that the answer tells of the tables; where reading refused, none.
+abbrev pub rowsRead : Decoded → List ℕ → List ℕ
+rowsRead (Read n m) table = take n table
+rowsRead (NotRead refusal) table = []
+
+abbrev pub valuesRead : Decoded → List ℕ → List ℕ
+valuesRead (Read n m) table = take (entryWords * m) table
+valuesRead (NotRead refusal) table = []
+
+-- it was read, it was written, and the bytes written are the input
+abbrev pub WrittenBack : List ℕ → Decoded → Encoded → List ℕ → Type 0
+WrittenBack s (Read n m) (Written size) after = take size after ≡ s
+WrittenBack s (Read n m) (NotWritten refusal) after = ⊥
+WrittenBack s (NotRead refusal) written after = ⊥
+
+-- Document 02, A2: "the check says yes exactly when the input equals what the writer produces for the rows read from
+-- it". The reader has tables with the room, the writer is given what was read, the input as its area, and an output with
+-- room for the input. (An input's bytes are below 256.)
+abbrev pub PlainIsWhatTheWriterWrites : Type 0
+PlainIsWhatTheWriterWrites =
+    (s : List ℕ) (says : Bool)
+    (rowTable valueTable : List ℕ) (r : Decoded) (rowTable′ valueTable′ out : List ℕ) (w : Encoded) (after : List ℕ)
+    → Bytes s → TellsPlain s says
+    → Roomy s rowTable valueTable → Decodes s rowTable valueTable r rowTable′ valueTable′
+    → length s ≤ length out → Encodes s (rowsRead r rowTable′) (valuesRead r valueTable′) out w after
+    → (says ≡ true → WrittenBack s r w after) × (WrittenBack s r w after → says ≡ true)
+
+-- What a cache relies on that compares bytes: of inputs with the same rows (row words, ids, types, aggregates, scalar
+-- words, blobs by their bytes, offsets apart) one alone is plain.
+abbrev pub OnePlainForm : Type 0
+OnePlainForm = (s t : List ℕ) → Bytes s → Bytes t → TellsPlain s true → TellsPlain t true → rowsOf s ≡ rowsOf t → s ≡ t

@@ -7,8 +7,8 @@ use lib.ListN.{drop}
 use Rattle.words.specs.Answer.{NotTaken}
 use Rattle.words.specs.declared.outcome.NoRoom.{NoRoom}
 use Rattle.guid.specs.declared.Guid.{Guid}
-use Rattle.guid.specs.declared.Printed.the-variants as printed
-use Rattle.guid.specs.Statement.{Prints}
+use Rattle.guid_text.specs.declared.Printed.the-variants as printed
+use Rattle.guid_text.specs.Statement.{Prints}
 use Rattle.packet_read.specs.declared.Decoded.{Decoded}
 use Rattle.packet.specs.declared.Mode.{Mode}
 use Rattle.packet.specs.declared.PacketType.{PacketType}

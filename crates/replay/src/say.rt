@@ -59,7 +59,7 @@ pub(crate) fn words(table: &[u64], count: usize) {
     }
 }
 
-fn part(offset: u64, length: u64) {
+fn place(offset: u64, length: u64) {
     if length == packet::NULL_LENGTH {
         text(b" null");
         return;
@@ -67,6 +67,12 @@ fn part(offset: u64, length: u64) {
     number(offset);
     text(b"+");
     io::print_decimal(STDOUT_FILENO, length);
+}
+
+fn part(offset: u64, length: u64, sum: u64) {
+    place(offset, length);
+    text(b":");
+    io::print_decimal(STDOUT_FILENO, sum);
 }
 
 // The first `count` entries of a part table.
@@ -79,6 +85,7 @@ pub(crate) fn parts(table: &[u64], count: usize) {
         part(
             table[packet::ENTRY_WORDS * i],
             table[packet::ENTRY_WORDS * i + 1],
+            table[packet::ENTRY_WORDS * i + 2],
         );
         i += 1;
     }
@@ -110,9 +117,8 @@ pub(crate) fn kept_bytes(buffer: &[u8], from: usize) {
 // How many values a refusal carries, by its number.
 fn carried(refusal: u64) -> u64 {
     match refusal {
-        16 => 0,
         1..=3 | 10 | 12..=15 | 24 => 1,
-        4..=6 | 8..=9 | 11 | 18 => 2,
+        4..=6 | 8..=9 | 11 | 16 | 18 => 2,
         _ => 3,
     }
 }

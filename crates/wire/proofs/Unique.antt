@@ -6,10 +6,10 @@ use Rattle.words.specs.Answer.{Answer, accepted, more, refused}
 use Rattle.words.specs.Paper.{Tells, outcome}
 use Rattle.words.specs.Statement.{OneResult}
 use Rattle.words.proofs.Unique.{equal-to-one, means-one}
-use Rattle.wire.specs.Layout.{valuesIn, padded, flag}
+use Rattle.wire.specs.Layout.{valuesIn, padded, flag, bitsOf}
 use Rattle.wire.specs.Kind.{kindOf}
 use Rattle.wire.specs.Paper.{paper}
-use Rattle.wire.specs.Statement.{CountsValues, Pads, Flags, IsKind}
+use Rattle.wire.specs.Statement.{CountsValues, Pads, Flags, IsKind, IsBits}
 use Rattle.wire.specs.Need.{needing, paperNeeded, Needs}
 use Rattle.wire.specs.declared.error.WireError.{WireError}
 use Rattle.wire.specs.declared.need.Needed.{Needed}
@@ -24,6 +24,9 @@ padded-unique n = equal-to-one (padded n)
 
 pub kind-of-unique : (type : ℕ) → OneResult (IsKind type)
 kind-of-unique type = equal-to-one (kindOf type)
+
+pub bits-of-unique : (type n : ℕ) → OneResult (IsBits type n)
+bits-of-unique type n = equal-to-one (bitsOf type n)
 
 pub outcome-unique : (error : WireError) → OneResult (Tells (paper error))
 outcome-unique error = equal-to-one (outcome (paper error))

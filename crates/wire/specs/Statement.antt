@@ -2,7 +2,7 @@
 -- `Needs`.) Assumes nothing.
 use Prim.Native.Nat.{ℕ}
 use mathlib.Core.Path.{_≡_}
-use Rattle.wire.specs.Layout.{valuesIn, padded, flag}
+use Rattle.wire.specs.Layout.{valuesIn, padded, flag, bitsOf}
 use Rattle.wire.specs.Kind.{kindOf}
 use Rattle.wire.specs.declared.kind.Kind.{Kind}
 
@@ -17,6 +17,10 @@ Pads n r = r ≡ padded n
 -- the kind of a type
 abbrev pub IsKind : ℕ → Kind → Type 0
 IsKind type r = r ≡ kindOf type
+
+-- a scalar's bits: its word, and of a boolean whether the word is 0
+abbrev pub IsBits : ℕ → ℕ → ℕ → Type 0
+IsBits type n r = r ≡ bitsOf type n
 
 -- 1 for any number but 0
 abbrev pub Flags : ℕ → ℕ → Type 0

@@ -1,5 +1,7 @@
-// The types of values by their codes, and the kinds that they fall into: the one place where codes are compared.
-ghost use Rattle.wire.specs.Statement.{IsKind};
+// The types of values by their codes, the kinds that they fall into, and a scalar's bits. Elsewhere codes are compared
+// only to tell a boolean from the other scalars.
+ghost use Rattle.wire.specs.Statement.{IsKind, IsBits};
+use super::layout::flag;
 
 pub const NULL: u64 = 2;
 
@@ -20,10 +22,8 @@ pub const COMPOSITE: u64 = 18;
 pub enum Kind {
     // No payload.
     Null,
-    // Int64, Uint64, Double: one word.
-    Word,
-    // One word, 0 or not.
-    Boolean,
+    // Int64, Uint64, Double, Boolean: one word.
+    Scalar,
     // String, Any, Composite: bytes and their padding.
     Blob,
     Unknown,
@@ -33,17 +33,14 @@ pub enum Kind {
 pub fn kind_of(code: u64) -> Kind
     ensures { λ r. ⌜ IsKind code r ⌝ }
 {
-    if code == NULL {
-        return Kind::Null;
-    }
-    if code == BOOLEAN {
-        return Kind::Boolean;
-    }
     if code < INT64 {
+        if code == NULL {
+            return Kind::Null;
+        }
         return Kind::Unknown;
     }
-    if code < BOOLEAN {
-        return Kind::Word;
+    if code <= BOOLEAN {
+        return Kind::Scalar;
     }
     if code < STRING {
         return Kind::Unknown;
@@ -52,4 +49,14 @@ pub fn kind_of(code: u64) -> Kind
         return Kind::Unknown;
     }
     Kind::Blob
+}
+
+// A scalar's bits: its word, and of a boolean whether the word is 0.
+pub fn bits_of(code: u64, word: u64) -> u64
+    ensures { λ r. ⌜ IsBits code word r ⌝ }
+{
+    if code == BOOLEAN {
+        return flag(word);
+    }
+    word
 }

@@ -103,21 +103,23 @@ module _ (size id type aggregate bits n : ℕ) where
       null-length e h =
           rw (le-ltb 65535 id fits, known-null type e, le-ltb 1 aggregate one, ne-eqb type boolean (λ f. omega arith), eq-eqb type nullType e, eq-eqb bits 0 h, blob-low type (omega arith)) (or-nothing _)
 
-      -- a boolean
-      pub bad-boolean : type ≡ boolean → 1 < bits → true ≡ bad size id type aggregate bits n
-      unfolding bad
-      bad-boolean e h = rw (le-ltb 65535 id fits, known-scalar type (omega arith) (omega arith), le-ltb 1 aggregate one, eq-eqb type boolean e, lt-ltb 1 bits h)
+      -- a scalar
+      module _ (low : 2 < type) (high : type < 7) where
+        scalar-bad : bad size id type aggregate bits n ≡ ((eqb type boolean && ltb 1 bits) || not (eqb n 0))
+        unfolding bad
+        scalar-bad =
+            rw (le-ltb 65535 id fits, known-scalar type low high, le-ltb 1 aggregate one, ne-eqb type nullType (λ e. omega arith), blob-low type (omega arith))
+            (by-test (eqb type boolean && ltb 1 bits) (λ is. rw is) (λ isnt. rw isnt (sym (or-nothing (not (eqb n 0))))))
 
-      pub boolean-length : type ≡ boolean → bits ≤ 1 → not (eqb n 0) ≡ bad size id type aggregate bits n
-      unfolding bad
-      boolean-length e h =
-          rw (le-ltb 65535 id fits, known-scalar type (omega arith) (omega arith), le-ltb 1 aggregate one, eq-eqb type boolean e, le-ltb 1 bits h, ne-eqb type nullType (λ f. omega arith), blob-low type (omega arith)) (or-nothing _)
+        pub scalar-length : (n ≡ 0 → ⊥) → true ≡ bad size id type aggregate bits n
+        scalar-length h = rw scalar-bad (rw (ne-eqb n 0 h) (by-test (eqb type boolean && ltb 1 bits) (λ is. rw is) (λ isnt. rw isnt)))
 
-      -- another scalar
-      pub word-length : 2 < type → type < boolean → not (eqb n 0) ≡ bad size id type aggregate bits n
-      unfolding bad
-      word-length low high =
-          rw (le-ltb 65535 id fits, known-scalar type low (omega arith), le-ltb 1 aggregate one, ne-eqb type boolean (λ e. omega arith), ne-eqb type nullType (λ e. omega arith), blob-low type (omega arith)) (or-nothing _)
+        module _ (none : n ≡ 0) where
+          pub word-good : (type ≡ boolean → ⊥) → false ≡ bad size id type aggregate bits n
+          word-good h = rw scalar-bad (rw (eq-eqb n 0 none, ne-eqb type boolean h))
+
+          pub boolean-bits : type ≡ boolean → ltb 1 bits ≡ bad size id type aggregate bits n
+          boolean-bits e = rw scalar-bad (rw (eq-eqb n 0 none, eq-eqb type boolean e) (or-nothing (ltb 1 bits)))
 
 -- Where none is wrong, each of the tests fails
 

@@ -60,8 +60,7 @@ fn measure_value(kind: u64, length: u64, size: usize) -> Measured
     match kind_of(kind) {
         Kind::Null => add_to_rowset_size(size, WORD_SIZE),
         Kind::Unknown => add_to_rowset_size(size, WORD_SIZE),
-        Kind::Word => add_to_rowset_size(size, WORD_SIZE + WORD_SIZE),
-        Kind::Boolean => add_to_rowset_size(size, WORD_SIZE + WORD_SIZE),
+        Kind::Scalar => add_to_rowset_size(size, WORD_SIZE + WORD_SIZE),
         Kind::Blob => {
             if (MAX_VALUE_LENGTH as u64) < length {
                 return Measured::Refused(WireError::ValueTooLong {

@@ -7,6 +7,7 @@ ghost use Rattle.wire.specs.Layout.{entryWords};
 ghost use Rattle.wire_check.specs.Writing.{total, bad, badEntry, firstBad};
 ghost use Rattle.wire_check.specs.Stages.{ChecksTables};
 use wire::error::WireError;
+use wire::kind::BOOLEAN;
 use wire::kind::Kind;
 use wire::kind::kind_of;
 use wire::layout::ENTRY_WORDS;
@@ -53,12 +54,14 @@ fn bad_value(size: u64, id: u64, kind: u64, aggregate: u64, bits: u64, length: u
             }
             length != 0
         }
-        Kind::Word => length != 0,
-        Kind::Boolean => {
-            if 1 < bits {
+        Kind::Scalar => {
+            if length != 0 {
                 return true;
             }
-            length != 0
+            if kind != BOOLEAN {
+                return false;
+            }
+            1 < bits
         }
         Kind::Blob => {
             if size < length {

@@ -8,8 +8,7 @@ use native.Mathlib.Numerals.{add-one}
 use native.Mathlib.Omega.{arith}
 use lib.ListN.{length, set, length-set}
 use lib.Seq.{sets, length-sets}
-use borrow.Author.Tests.{eq-eqb, ne-eqb}
-use Rattle.wire.specs.Layout.{nullType, boolean, entryWords, scalar, blob, padded, valuesIn, flag, typeAt, lengthAt, scalarAt, countAt, nextValue, nextValues, nextRow, nextRows, valueCount, entry, entries, rowWords, valueWords, fourth, fifth}
+use Rattle.wire.specs.Layout.{nullType, scalar, blob, padded, valuesIn, flag, bitsOf, typeAt, lengthAt, scalarAt, countAt, nextValue, nextValues, nextRow, nextRows, valueCount, entry, entries, rowWords, valueWords, fourth, fifth}
 use Rattle.wire_value.specs.ValueOf.{headerAt}
 use Rattle.wire_value.specs.declared.value.Header.{Header}
 use Rattle.wire.proofs.TypeLaws.{scalar-yes, scalar-low, blob-yes, blob-low, payload-none, payload-scalar, payload-blob}
@@ -49,18 +48,9 @@ module _ (s : List ℕ) (at : ℕ) where
       unfolding nextValue
       scalar-next = rw (payload-scalar (typeAt s at) (lengthAt s at) (rw kind-is at low) (rw kind-is at high))
 
-      module _ (n : ℕ) (word : n ≡ scalarAt s at) where
-        pub word-holds : header .kind < 6 → Filled s at n 0 (at + 8 + 8)
-        unfolding fourth fifth
-        word-holds h =
-            let type : typeAt s at < 6 = rw kind-is at h in
-            (rw (no-blob, scalar-is, ne-eqb (typeAt s at) 6 (λ e. omega arith)) word, rw no-blob, scalar-next)
-
-        pub boolean-holds : header .kind ≡ boolean → (r : ℕ) → r ≡ flag n → Filled s at r 0 (at + 8 + 8)
-        unfolding fourth fifth
-        boolean-holds h r told =
-            let type : typeAt s at ≡ boolean = sym kind-is ∙ h in
-            (rw (no-blob, scalar-is, eq-eqb (typeAt s at) boolean type, told, word), rw no-blob, scalar-next)
+      pub scalar-holds : (n r : ℕ) → n ≡ scalarAt s at → r ≡ bitsOf (header .kind) n → Filled s at r 0 (at + 8 + 8)
+      unfolding fourth fifth
+      scalar-holds n r word told = (rw (no-blob, scalar-is, told, word, kind-is), rw no-blob, scalar-next)
 
     module _ (low : 16 ≤ header .kind) (high : header .kind ≤ 18) where
       pub blob-next : at + 8 + padded (header .length) ≡ nextValue s at

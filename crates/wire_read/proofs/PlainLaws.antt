@@ -1,6 +1,6 @@
 -- Laws of the plain form: what is still to be looked at is all that a contract speaks of. Assumes nothing.
 use mathlib.Core.Path.{_≡_, refl, sym, _∙_, ap}
-use mathlib.Core.Bool.{Bool, true, false, _&&_}
+use mathlib.Core.Bool.{Bool, true, false, true≢false, _&&_}
 use mathlib.Core.List.{List, []}
 use Prim.Native.Nat.{ℕ, zero, suc, _+_, _-_, _*_, _<_, _≤_}
 use native.Mathlib.Nat.{sub-zero}
@@ -17,10 +17,10 @@ use Rattle.wire.specs.declared.error.WireError.{WireError}
 use Rattle.wire.proofs.PaperLaws.{paper-not-taken}
 use Rattle.wire_read.proofs.ReadingLaws.{accepts-walks, not-accepted}
 use Rattle.wire_value.specs.declared.value.Header.{Header}
-use Rattle.wire.proofs.TypeLaws.{scalar-yes, scalar-low, scalar-high, blob-yes, blob-low}
+use Rattle.wire.proofs.TypeLaws.{blob-yes, blob-low}
 use Rattle.wire_value.proofs.HeaderLaws.{header-kind, header-aggregate, header-length}
 use Rattle.wire.proofs.LayoutLaws.{nextValues-more, nextRows-more, nextValues-far, nextRow-far, nextRows-far}
-use Rattle.wire_read.specs.Plain.{zeros, plainValue, plainValues, plainRows, isAccepted, accepts, plain}
+use Rattle.wire_read.specs.Plain.{zeros, plainValue, plainValues, plainRows, isAccepted, plain}
 use Rattle.wire_read.specs.Stages.{PlainTill, WalksRowset}
 use Rattle.wire_read.specs.declared.plain.Plain.{Plain}
 use Rattle.wire_read.specs.declared.plain.Plain.the-variants.{Till, Not}
@@ -54,6 +54,9 @@ alone : (t : Bool) → t ≡ (t && true)
 alone true = refl
 alone false = refl
 
+never-scalar : scalar boolean ≡ false → ⊥
+never-scalar e = true≢false e
+
 module _ (s : List ℕ) (at : ℕ) (header : Header) (is : header ≡ headerAt s at) where
   kind-is : header .kind ≡ typeAt s at
   kind-is = header-kind s at header is
@@ -66,42 +69,38 @@ module _ (s : List ℕ) (at : ℕ) (header : Header) (is : header ≡ headerAt s
     flag-is : ltb (aggregateAt s at) 2 ≡ true
     flag-is = let h : aggregateAt s at ≤ 1 = rw (header-aggregate s at header is) at one in lt-ltb (aggregateAt s at) 2 (omega arith)
 
-    no-payload : scalar (typeAt s at) ≡ false → blob (typeAt s at) ≡ false → true ≡ plainValue s at
+    -- what is neither a blob nor a boolean is plain by its length word
+    length-plain : blob (typeAt s at) ≡ false → (typeAt s at ≡ boolean → ⊥) → eqb (header .length) 0 ≡ plainValue s at
     unfolding plainValue
-    no-payload n b = rw (flag-is, n, b)
+    length-plain b other = rw (flag-is, b, ne-eqb (typeAt s at) boolean other, header-length s at header is) (alone (eqb (lengthAt s at) 0))
 
-    pub value-null : header .kind ≡ nullType → true ≡ plainValue s at
+    pub value-null : header .kind ≡ nullType → eqb (header .length) 0 ≡ plainValue s at
     value-null h =
         let type : typeAt s at ≡ nullType = sym kind-is ∙ h in
-        no-payload (scalar-low (typeAt s at) (omega arith)) (blob-low (typeAt s at) (omega arith))
+        length-plain (blob-low (typeAt s at) (omega arith)) (λ e. omega arith)
 
-    pub value-unknown : scalar (header .kind) ≡ false → blob (header .kind) ≡ false → true ≡ plainValue s at
-    value-unknown n b = no-payload (rw kind-is at n) (rw kind-is at b)
+    pub value-unknown : scalar (header .kind) ≡ false → blob (header .kind) ≡ false → eqb (header .length) 0 ≡ plainValue s at
+    value-unknown n b =
+        let none : scalar (typeAt s at) ≡ false = rw kind-is at n in
+        length-plain (rw kind-is at b) (λ e. never-scalar (rw e at none))
 
     module _ (low : 3 ≤ header .kind) (high : header .kind < 7) where
-      scalar-is : scalar (typeAt s at) ≡ true
-      scalar-is = scalar-yes (typeAt s at) (rw kind-is at low) (rw kind-is at high)
+      no-blob : blob (typeAt s at) ≡ false
+      no-blob = let h : typeAt s at < 7 = rw kind-is at high in blob-low (typeAt s at) (omega arith)
 
       pub scalar-length : (header .length ≡ 0 → ⊥) → false ≡ plainValue s at
       unfolding plainValue
-      scalar-length h = rw (flag-is, scalar-is, ne-eqb (lengthAt s at) 0 (λ e. h (header-length s at header is ∙ e)))
-
-      -- a scalar but a boolean is plain by its length word
-      pub word-plain : header .kind < boolean → eqb (header .length) 0 ≡ plainValue s at
-      unfolding plainValue
-      word-plain h =
-          let type : typeAt s at < boolean = rw kind-is at h in
-          rw (flag-is, scalar-is, ne-eqb (typeAt s at) boolean (λ e. omega arith), header-length s at header is) (alone (eqb (lengthAt s at) 0))
+      scalar-length h = rw (flag-is, no-blob, ne-eqb (lengthAt s at) 0 (λ e. h (header-length s at header is ∙ e)))
 
       module _ (none : header .length ≡ 0) where
-        length-none : eqb (lengthAt s at) 0 ≡ true
-        length-none = eq-eqb (lengthAt s at) 0 (sym (header-length s at header is) ∙ none)
+        pub word-plain : (header .kind ≡ boolean → ⊥) → true ≡ plainValue s at
+        word-plain other = sym (eq-eqb (header .length) 0 none) ∙ length-plain no-blob (λ e. other (kind-is ∙ e))
 
         pub boolean-plain : header .kind ≡ boolean → (n : ℕ) → n ≡ scalarAt s at → ltb n 2 ≡ plainValue s at
         unfolding plainValue
         boolean-plain h n e =
             let type : typeAt s at ≡ boolean = sym kind-is ∙ h in
-            rw (flag-is, scalar-is, length-none, eq-eqb (typeAt s at) boolean type, e)
+            rw (flag-is, no-blob, eq-eqb (lengthAt s at) 0 (sym (header-length s at header is) ∙ none), eq-eqb (typeAt s at) boolean type, e)
 
     module _ (low : 16 ≤ header .kind) (high : header .kind ≤ 18) where
       pub blob-plain : (size : ℕ) (r : Bool) → size ≡ padded (header .length) → r ≡ zeros s (size - header .length) (at + 8 + header .length) → r ≡ plainValue s at
@@ -109,7 +108,7 @@ module _ (s : List ℕ) (at : ℕ) (header : Header) (is : header ≡ headerAt s
       blob-plain size r e z =
           let type : typeAt s at ≤ 18 = rw kind-is at high in
           let fill : size - header .length ≡ padding (header .length) = rw e (omega arith) in
-          rw (flag-is, scalar-high (typeAt s at) (omega (arith, kind-is)), blob-yes (typeAt s at) (rw kind-is at low) (omega arith), ← header-length s at header is)
+          rw (flag-is, blob-yes (typeAt s at) (rw kind-is at low) (omega arith), ← header-length s at header is)
           (rw fill at z)
 
 -- Values

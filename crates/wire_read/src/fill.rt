@@ -7,6 +7,7 @@ ghost use lib.Seq.{sets};
 ghost use Rattle.wire.specs.Layout.{entryWords, nextValue, nextValues, nextRows, valueCount, entry, entries, rowWords, valueWords, fourth, fifth};
 ghost use Rattle.wire_value.specs.ValueOf.{headerAt};
 use wire::kind::Kind;
+use wire::kind::bits_of;
 use wire::kind::kind_of;
 use wire::layout::ENTRY_WORDS;
 use wire::layout::WORD_SIZE;
@@ -40,13 +41,8 @@ pub(crate) fn read_payload(input: &[u8], at: usize, header: Header) -> Payload
             fifth: 0,
             next: at + WORD_SIZE,
         },
-        Kind::Word => Payload {
-            fourth: read_u64(input, at + WORD_SIZE),
-            fifth: 0,
-            next: at + WORD_SIZE + WORD_SIZE,
-        },
-        Kind::Boolean => Payload {
-            fourth: flag(read_u64(input, at + WORD_SIZE)),
+        Kind::Scalar => Payload {
+            fourth: bits_of(header.kind as u64, read_u64(input, at + WORD_SIZE)),
             fifth: 0,
             next: at + WORD_SIZE + WORD_SIZE,
         },

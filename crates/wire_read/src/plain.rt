@@ -9,6 +9,7 @@ ghost use Rattle.wire_read.specs.Statement.{TellsPlain};
 use super::fill::read_payload;
 use super::walk::Walked;
 use super::walk::walk_rowset;
+use wire::kind::BOOLEAN;
 use wire::kind::Kind;
 use wire::kind::kind_of;
 use wire::layout::MAX_ROWSET_SIZE;
@@ -51,12 +52,14 @@ fn plain_value(input: &[u8], at: usize) -> bool
         return false;
     }
     match kind_of(header.kind as u64) {
-        Kind::Null => true,
-        Kind::Unknown => true,
-        Kind::Word => header.length == 0,
-        Kind::Boolean => {
+        Kind::Null => header.length == 0,
+        Kind::Unknown => header.length == 0,
+        Kind::Scalar => {
             if header.length != 0 {
                 return false;
+            }
+            if header.kind as u64 != BOOLEAN {
+                return true;
             }
             read_u64(input, at + WORD_SIZE) < 2
         }

@@ -1,13 +1,12 @@
 -- What a value's checks decide, by the check that decides. Assumes nothing.
 use mathlib.Core.Path.{_≡_, sym, _∙_}
-use mathlib.Core.Bool.{true, false, _&&_}
+use mathlib.Core.Bool.{false}
 use mathlib.Core.List.{List}
 use Prim.Native.Nat.{ℕ, _+_, _-_, _<_, _≤_}
 use native.Mathlib.Omega.{arith}
 use lib.ListN.{length}
-use lib.Dec.{ltb}
 use borrow.Author.Tests.{lt-ltb, le-ltb}
-use Rattle.wire.specs.Layout.{nullType, maxLength, blob, known, padded, typeAt, lengthAt, payloadAt, nextValue}
+use Rattle.wire.specs.Layout.{nullType, maxLength, blob, known, padded, typeAt, lengthAt, nextValue}
 use Rattle.wire.specs.Need.{lacks, Needs}
 use Rattle.wire.specs.declared.error.WireError.{WireError}
 use Rattle.wire.specs.declared.error.WireError.the-variants.{ValueTooLong, UnknownValueType}
@@ -18,11 +17,33 @@ use Rattle.wire.proofs.TypeLaws.{scalar-low, blob-low, known-null, known-scalar
 use Rattle.wire_value.specs.ValueOrder.{valueOrder}
 use Rattle.wire_value.specs.ValueOf.{headerAt}
 use Rattle.wire_value.specs.Statement.{ChecksValue, Lies}
-use Rattle.wire_value.specs.Stages.{Looks}
+use Rattle.wire_value.specs.Stages.{Expects, Looks}
+use Rattle.wire_value.specs.declared.value.Expected.{Expected}
+use Rattle.wire_value.specs.declared.value.Expected.the-variants.{Payload, Refused}
 use Rattle.wire_value.specs.declared.value.Header.{Header}
 use Rattle.wire_value.specs.declared.value.Checked.{Checked}
 use Rattle.wire_value.specs.declared.value.Checked.the-variants.{Passed, Failed}
 use Rattle.wire_value.proofs.HeaderLaws.{header-kind, header-length}
+
+-- what a header of this type and length word asks for
+module _ (type n : ℕ) where
+  pub expects-unknown : known type ≡ false → Expects type n (Refused (UnknownValueType type))
+  expects-unknown h = λ rest. rw h
+
+  pub expects-null : type ≡ nullType → Expects type n (Payload 0)
+  expects-null h =
+      let none : blob type ≡ false = blob-low type (omega arith) in
+      (known-null type h, rw none, payload-none type n (scalar-low type (omega arith)) none)
+
+  pub expects-scalar : 2 < type → type < 7 → Expects type n (Payload 8)
+  expects-scalar low high = (known-scalar type low high, rw (blob-low type (omega arith)), payload-scalar type n low high)
+
+  module _ (low : 15 < type) (high : type < 19) where
+    pub expects-long : maxLength < n → Expects type n (Refused (ValueTooLong n))
+    expects-long h = λ rest. rw (known-blob type low high, blob-yes type low high, lt-ltb maxLength n h)
+
+    pub expects-blob : n ≤ maxLength → (size : ℕ) → size ≡ padded n → Expects type n (Payload size)
+    expects-blob allowed size is = (known-blob type low high, rw (blob-yes type low high, le-ltb maxLength n allowed), payload-blob type n low high ∙ sym is)
 
 -- a result of the checks, and where it lies
 abbrev pub Checks : List ℕ → ℕ → Checked → Type 0
@@ -44,9 +65,16 @@ module _ (s : List ℕ) (at : ℕ) (header : Header) (is : header ≡ headerAt s
   there : lacks s at 8 ≡ false
   there = le-ltb (length s - at) 8 (omega arith)
 
-  pub order-unknown : known (header .kind) ≡ false → Checks s at (Failed (UnknownValueType (header .kind)))
-  unfolding valueOrder
-  order-unknown h = ((λ rest. let unknown : known (typeAt s at) ≡ false = rw (kind-is) at h in rw (there, unknown, kind-is)), tt)
+  -- what the header asks for is refused, or is looked for
+  module _ (r : Expected) (expects : Expects (header .kind) (header .length) r) where
+    pub header-fails : (e : WireError) → r ≡ Refused e → Checks s at (Failed e)
+    unfolding valueOrder
+    header-fails e refuses =
+        let told : Expects (typeAt s at) (lengthAt s at) (Refused e) = rw (kind-is, length-is, refuses) at expects in
+        ((λ rest. rw there (told _)), tt)
+
+    pub header-looks : (n : ℕ) → r ≡ Payload n → Looks s at n
+    header-looks n asks = rw (kind-is, length-is, asks) at expects
 
   -- the type is known and the length allowed: the payload of so many bytes is there, or it is not
   module _ (n : ℕ) (looks : Looks s at n) (r : Needed) (needs : Needs s (at + 8) n r) where
@@ -62,30 +90,3 @@ module _ (s : List ℕ) (at : ℕ) (header : Header) (is : header ≡ headerAt s
     payload-passes enough =
         let size : n ≤ length s - (at + 8) = enough-room s (at + 8) n r needs enough in
         ((is, rw (looks .2), (λ rest. rw (there, looks .0, looks .1, looks .2, le-ltb (length s - (at + 8)) n size))), omega arith)
-
-  -- which payload is looked for
-  pub looks-null : header .kind ≡ nullType → Looks s at 0
-  looks-null h =
-      let type : typeAt s at ≡ nullType = sym kind-is ∙ h in
-      let none : blob (typeAt s at) ≡ false = blob-low (typeAt s at) (omega arith) in
-      (known-null (typeAt s at) type, rw none, payload-none (typeAt s at) (lengthAt s at) (scalar-low (typeAt s at) (omega arith)) none)
-
-  pub looks-scalar : 2 < header .kind → header .kind < 7 → Looks s at 8
-  looks-scalar low high =
-      let h : typeAt s at < 7 = rw kind-is at high in
-      (known-scalar (typeAt s at) (rw kind-is at low) h, rw (blob-low (typeAt s at) (omega arith)), payload-scalar (typeAt s at) (lengthAt s at) (rw kind-is at low) h)
-
-  module _ (low : 15 < header .kind) (high : header .kind < 19) where
-    blob-is : blob (typeAt s at) ≡ true
-    blob-is = blob-yes (typeAt s at) (rw kind-is at low) (rw kind-is at high)
-
-    blob-known : known (typeAt s at) ≡ true
-    blob-known = known-blob (typeAt s at) (rw kind-is at low) (rw kind-is at high)
-
-    pub blob-long : maxLength < header .length → Checks s at (Failed (ValueTooLong (header .length)))
-    unfolding valueOrder
-    blob-long h = ((λ rest. rw (there, blob-known, blob-is, lt-ltb maxLength (lengthAt s at) (rw length-is at h), length-is)), tt)
-
-    pub looks-blob : header .length ≤ maxLength → (n : ℕ) → n ≡ padded (header .length) → Looks s at n
-    looks-blob allowed n size =
-        (blob-known, rw (blob-is, le-ltb maxLength (lengthAt s at) (rw length-is at allowed)), payload-blob (typeAt s at) (lengthAt s at) (rw kind-is at low) (rw kind-is at high) ∙ sym (rw length-is at size))

@@ -7,10 +7,9 @@ use native.Mathlib.Omega.{arith}
 use native.Mathlib.Decide.{ℕ-discrete, decLt}
 use lib.Dec.{eqb}
 use lib.ListN.{length}
-use borrow.Author.Tests.{eq-eqb, ne-eqb}
 use Rattle.words.specs.Answer.{Answer, accepted, more, refuse}
 use Rattle.words.specs.Decide.{pick, decide}
-use Rattle.wire.specs.Layout.{boolean, scalar, blob, known, typeAt, scalarAt, aggregateAt, lengthAt, nextValue, entry, fourth, fifth, bitsOf, flag}
+use Rattle.wire.specs.Layout.{scalar, blob, known, typeAt, scalarAt, aggregateAt, lengthAt, nextValue, entry, fourth, fifth, bitsOf, flag}
 use Rattle.wire.specs.Need.{lacks}
 use Rattle.wire_value.specs.ValueOrder.{valueOrder, valueReading}
 use Rattle.wire_value.specs.ValueOf.{valueOf, bitsAt, headerAt, valueAt}
@@ -42,19 +41,15 @@ module _ (s : List ℕ) (at : ℕ) where
   unfolding valueOrder
   passes-known passes = second-silent (lacks s at 8) (known (typeAt s at)) 9 14 (at ∷ (8 - (length s - at)) ∷ []) (typeAt s at ∷ []) _ (passes more)
 
-  -- the bits by the kind: none, the word, or whether a boolean's word is 0
+  -- the bits by the kind: a scalar's, or none
   module _ (kind : ℕ) (e : kind ≡ typeAt s at) where
     pub bits-none : scalar kind ≡ false → 0 ≡ bitsAt s at
     unfolding bitsAt
     bits-none none = let isnt : scalar (typeAt s at) ≡ false = rw e at none in rw isnt
 
-    pub bits-word : 2 < kind → kind < boolean → (n : ℕ) → n ≡ scalarAt s at → n ≡ bitsAt s at
+    pub bits-scalar : 2 < kind → kind < 7 → (n r : ℕ) → n ≡ scalarAt s at → r ≡ bitsOf kind n → r ≡ bitsAt s at
     unfolding bitsAt
-    bits-word low high n is = rw (scalar-yes (typeAt s at) (omega arith) (omega arith), ne-eqb (typeAt s at) boolean (λ x. omega arith)) is
-
-    pub bits-boolean : kind ≡ boolean → (n r : ℕ) → n ≡ scalarAt s at → r ≡ flag n → r ≡ bitsAt s at
-    unfolding bitsAt
-    bits-boolean h n r is told = rw (scalar-yes (typeAt s at) (omega arith) (omega arith), eq-eqb (typeAt s at) boolean (omega arith), told, is)
+    bits-scalar low high n r is told = rw (scalar-yes (typeAt s at) (omega arith) (omega arith), told, is, e)
 
 -- A property of the eight types holds of every known type
 

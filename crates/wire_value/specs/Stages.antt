@@ -1,11 +1,25 @@
 -- What the private stages hand on: nobody has to believe it. Assumes nothing.
 use Prim.Native.Nat.{ℕ}
 use mathlib.Core.Path.{_≡_}
-use mathlib.Core.Bool.{true, false, _&&_}
-use mathlib.Core.List.{List}
-use Rattle.words.specs.Decide.{_<?_}
-use Rattle.wire.specs.Layout.{maxLength, blob, known, typeAt, lengthAt, payloadAt}
+use mathlib.Core.Bool.{true, false, _&&_, not}
+use mathlib.Core.List.{List, [], _∷_}
+use Rattle.words.specs.Answer.{Answer, refuse}
+use Rattle.words.specs.Decide.{Line, _⇒_, decide, _<?_}
+use Rattle.wire.specs.Layout.{maxLength, blob, known, payload, typeAt, lengthAt}
+use Rattle.wire.specs.Paper.{paper}
+use Rattle.wire_value.specs.declared.value.Expected.{Expected}
+use Rattle.wire_value.specs.declared.value.Expected.the-variants.{Payload, Refused}
 
--- the value's type is known, a blob's length is allowed, and the payload is to have so many bytes
+-- the checks that a header of this type and length word fails by itself
+abbrev pub headerOrder : ℕ → ℕ → List (Line Answer)
+headerOrder type n = not (known type) ⇒ refuse 14 (type ∷ []) ∷ (blob type && maxLength <? n) ⇒ refuse 12 (n ∷ []) ∷ []
+
+-- the type is known, a blob's length is allowed, and the payload is to have so many bytes; or the refusal, whatever
+-- follows
+abbrev pub Expects : ℕ → ℕ → Expected → Type 0
+Expects type n (Payload size) = (known type ≡ true) × ((blob type && maxLength <? n) ≡ false) × (payload type n ≡ size)
+Expects type n (Refused refusal) = (rest : Answer) → decide (headerOrder type n) rest ≡ paper refusal
+
+-- so of the value at `at`
 abbrev pub Looks : List ℕ → ℕ → ℕ → Type 0
-Looks s at size = (known (typeAt s at) ≡ true) × ((blob (typeAt s at) && maxLength <? lengthAt s at) ≡ false) × (payloadAt s at ≡ size)
+Looks s at size = Expects (typeAt s at) (lengthAt s at) (Payload size)

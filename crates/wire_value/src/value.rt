@@ -8,7 +8,7 @@ ghost use Rattle.wire.specs.Layout.{typeAt};
 ghost use Rattle.wire_value.specs.ValueOf.{signed, valueOf, bitsAt, headerAt};
 ghost use Rattle.wire_value.specs.Paper.{typeOf, offsetOr, lengthOf, bit, paperValue};
 ghost use Rattle.wire_value.specs.Statement.{ReadsHeader, ChecksValue, Lies, ReadsValue};
-ghost use Rattle.wire_value.specs.Stages.{Looks};
+ghost use Rattle.wire_value.specs.Stages.{Expects, Looks};
 use wire::error::WireError;
 use wire::kind::ANY;
 use wire::kind::BOOLEAN;
@@ -19,10 +19,10 @@ use wire::kind::Kind;
 use wire::kind::NULL;
 use wire::kind::STRING;
 use wire::kind::UINT64;
+use wire::kind::bits_of;
 use wire::kind::kind_of;
 use wire::layout::MAX_VALUE_LENGTH;
 use wire::layout::WORD_SIZE;
-use wire::layout::flag;
 use wire::layout::padded;
 use wire::need::Needed;
 use wire::need::need_at;
@@ -84,6 +84,31 @@ pub fn read_header(input: &[u8], at: usize) -> Header
     }
 }
 
+// What is to stand behind a header.
+enum Expected {
+    // So many bytes.
+    Payload(usize),
+    Refused(WireError),
+}
+
+// 14, then 12; else how many bytes the payload has. The sizes meet in one answer, so that the bytes are looked for at
+// one place: looked for in each case by itself they make `check_value` too large to be compiled into a rowset's walk.
+fn payload_size(kind: u8, length: u32) -> Expected
+    ensures { λ r. ⌜ Expects kind length r ⌝ }
+{
+    match kind_of(kind as u64) {
+        Kind::Unknown => Expected::Refused(WireError::UnknownValueType(kind)),
+        Kind::Null => Expected::Payload(0),
+        Kind::Scalar => Expected::Payload(WORD_SIZE),
+        Kind::Blob => {
+            if MAX_VALUE_LENGTH < length {
+                return Expected::Refused(WireError::ValueTooLong { length });
+            }
+            Expected::Payload(padded(length))
+        }
+    }
+}
+
 // The payload of so many bytes: it is there, or 9.
 fn check_bytes(input: &[u8], at: usize, header: Header, size: usize) -> Checked
     requires { ⌜ (at + 8 ≤ length (now input)) × (header ≡ headerAt (now input) at) × Looks (now input) at size ⌝ }
@@ -102,19 +127,9 @@ fn check_payload(input: &[u8], at: usize, header: Header) -> Checked
     ensures { λ r. ⌜ ChecksValue (now (input .entry)) at r ⌝ }
     ensures { λ r. ⌜ Lies (now (input .entry)) r ⌝ }
 {
-    let kind = header.kind;
-    match kind_of(kind as u64) {
-        Kind::Unknown => Checked::Failed(WireError::UnknownValueType(kind)),
-        Kind::Null => check_bytes(input, at, header, 0),
-        Kind::Word => check_bytes(input, at, header, WORD_SIZE),
-        Kind::Boolean => check_bytes(input, at, header, WORD_SIZE),
-        Kind::Blob => {
-            let length = header.length;
-            if MAX_VALUE_LENGTH < length {
-                return Checked::Failed(WireError::ValueTooLong { length });
-            }
-            check_bytes(input, at, header, padded(length))
-        }
+    match payload_size(header.kind, header.length) {
+        Expected::Refused(refusal) => Checked::Failed(refusal),
+        Expected::Payload(size) => check_bytes(input, at, header, size),
     }
 }
 
@@ -175,7 +190,7 @@ fn value_of(kind: u64, bits: u64, offset: usize, length: usize) -> Value
     Value::Null
 }
 
-// A scalar's bits: its word, and of a boolean whether the word is 0.
+// The bits beside a value: a scalar's, 0 for the other types.
 fn bits_at(input: &[u8], at: usize, kind: u8) -> u64
     requires { ⌜ (at + 8 ≤ length (now input)) × (kind ≡ typeAt (now input) at) ⌝ }
     ensures { λ r. ⌜ r ≡ bitsAt (now (input .entry)) at ⌝ }
@@ -184,8 +199,7 @@ fn bits_at(input: &[u8], at: usize, kind: u8) -> u64
         Kind::Null => 0,
         Kind::Unknown => 0,
         Kind::Blob => 0,
-        Kind::Word => read_u64(input, at + WORD_SIZE),
-        Kind::Boolean => flag(read_u64(input, at + WORD_SIZE)),
+        Kind::Scalar => bits_of(kind as u64, read_u64(input, at + WORD_SIZE)),
     }
 }
 

@@ -69,11 +69,7 @@ fn write_value(
     match kind_of(kind) {
         Kind::Null => WORD_SIZE,
         Kind::Unknown => WORD_SIZE,
-        Kind::Word => {
-            write_u64(&mut out[WORD_SIZE..], bits);
-            WORD_SIZE + WORD_SIZE
-        }
-        Kind::Boolean => {
+        Kind::Scalar => {
             write_u64(&mut out[WORD_SIZE..], bits);
             WORD_SIZE + WORD_SIZE
         }

@@ -128,7 +128,7 @@ impl Refusal {
 /// Reads packets, and keeps its table of parts from one to the next. It is made for one mode:
 /// [`Decoder::live`] for a live socket, [`Decoder::archive`] for what was stored.
 ///
-/// The table has 16 bytes for each part of the largest packet that was read, and at most twice that
+/// The table has 24 bytes for each part of the largest packet that was read, and at most twice that
 /// is held: no more than 2 MiB under [`DEFAULT_MAX_PART_COUNT`]. It grows for a packet that is
 /// whole, never on what a header declares. [`Decoder::memory`] says what is held,
 /// [`Decoder::shrink_to`] gives it back.

@@ -102,6 +102,31 @@ fn a_decoded_packet_is_written_again() {
 }
 
 #[test]
+fn a_part_tells_whether_it_was_guarded() {
+    let mut bytes = message(&[None, Some(b"term"), Some(b"")]);
+    let guards = |bytes: &[u8]| {
+        let parts = decode(Mode::Live, bytes, 1 << 20)
+            .unwrap()
+            .unwrap()
+            .packet
+            .parts;
+        [0, 1, 2, 3].map(|index| parts.guard(index))
+    };
+    let sum = part_checksum(Some(b"term"));
+    let bare = Some(Guard::Bare);
+    assert_eq!(
+        guards(&bytes),
+        [None, Some(Guard::Guarded(sum)), bare, None]
+    );
+    // The same packet from a sender that stores no checksums.
+    bytes[28..36].fill(0);
+    bytes[48..80].fill(0);
+    assert_eq!(guards(&bytes), [None, bare, bare, None]);
+    let made = Parts::from(vec![Some(&b"term"[..])]);
+    assert_eq!(made.guard(0), None);
+}
+
+#[test]
 fn parts_outlive_the_packet() {
     let bytes = message(&[Some(b"kept")]);
     let kept = {

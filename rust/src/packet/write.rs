@@ -198,7 +198,7 @@ pub fn size(packet: &Packet<'_>) -> usize {
 /// [`Encoder::live`] for a live peer, [`Encoder::archive`] for an archive.
 ///
 /// It holds at most twice what the largest packet took: its bytes, a copy of its parts where they lay
-/// in several places, and 16 bytes for each part. [`Encoder::shrink_to`] gives that back.
+/// in several places, and 24 bytes for each part. [`Encoder::shrink_to`] gives that back.
 #[derive(Debug, Clone)]
 pub struct Encoder {
     mode: Mode,

@@ -124,7 +124,8 @@ pub fn decode_rowset(input: &[u8]) -> Result<Rowset<'_>, WireError> {
 }
 
 /// Whether `input` is a rowset in the one form that is written: flags and booleans 0 or 1, unused
-/// length words and padding 0.
+/// length words (a Null's too) and padding 0, at most 2^30 bytes. It says yes exactly where writing
+/// the rows read from `input` gives `input`, so two such inputs with the same rows are equal.
 pub fn is_plain(input: &[u8]) -> bool {
     sys::is_plain(input)
 }

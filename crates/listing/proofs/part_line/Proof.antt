@@ -14,8 +14,8 @@ put-bytes-requires c κs = search needs
 put-field-requires : tie.Need-put-field-requires
 put-field-requires c κs = search needs
 
-put-length-requires : tie.Need-put-length-requires
-put-length-requires c κs = search needs
+put-entry-requires : tie.Need-put-entry-requires
+put-entry-requires c κs = search needs
 
 same-length : tie.Need-same-length
 same-length c = search needs
@@ -25,8 +25,8 @@ returns c =
     let start = c .before .before .before .before .before .before .before .before .before .before .before .before .before .before in
     let word = c .before .before .before .before .before .before .before .before .before .before .put-bytes .ensures in
     let index = c .before .before .before .before .before .before .put-field .ensures in
-    let size = c .before .before .put-length .ensures in
-    (wrote-as (part-text (start .args .index) (start .args .size)) (wrote-then (omega (arith, word .ends, index .1)) (wrote-then (omega (arith, word .ends)) word (index .0)) (size .0)), omega (arith, word .ends, index .1, size .1))
+    let entry = c .before .before .put-entry .ensures in
+    (wrote-as (part-text (start .args .index) (start .args .size) (start .args .sum)) (wrote-then (omega (arith, word .ends, index .1)) (wrote-then (omega (arith, word .ends)) word (index .0)) (entry .0)), omega (arith, word .ends, index .1, entry .1))
 
 pub part-line-spec : {M : Type 1} → statement M
 part-line-spec =
@@ -35,6 +35,6 @@ part-line-spec =
     slice-aggregate-put-bytes
     put-bytes-requires
     put-field-requires
-    put-length-requires
+    put-entry-requires
     same-length
     returns)

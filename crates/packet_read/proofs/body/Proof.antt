@@ -21,7 +21,7 @@ enum-known-consumed c = search needs
 check-parts-requires : tie.Need-check-parts-requires
 check-parts-requires c κs = let sized = rw (c .before .consumed .given .1) at (c .before .before .before .variable-header .ensures) in
     let start = c .before .before .before .before .before .before in
-    (start .pre .0, (sized .1, start .pre .1 .1))
+    (sized .1, start .pre .1)
 
 enum-known-index : tie.Need-enum-known-index
 enum-known-index c = search needs
@@ -39,7 +39,7 @@ fill-requires : tie.Need-fill-requires
 fill-requires c κs = let k = c .before .before .before .before .before .before .before .before in
     let sized = rw (c .before .before .before .before .before .before .consumed .given .1) at (k .variable-header .ensures) in
     let start = k .before .before .before in
-    (sized .1, start .pre .1 .1, omega (arith, c .before .if1 .left))
+    (sized .1, start .pre .1, omega (arith, c .before .if1 .left))
 
 returns-2 : tie.Need-returns-2
 returns-2 c = body-more _ _ _ _ (rw (c .enum-told .given .1) at (c .before .before .variable-header .ensures))
@@ -60,7 +60,7 @@ returns-5 c = let k = c .before .before .before .before .before .before .before 
     let sized = rw (c .before .before .before .before .before .before .before .before .before .consumed .given .1) at (k .variable-header .ensures) in
     let good = rw (c .before .before .before .before .before .enum-told2 .given .1) at (c .before .before .before .before .before .before .before .check-parts .ensures) in
     let start = k .before .before .before in
-    body-read _ _ _ _ _ sized good _ _ (start .pre .1 .0) (start .pre .1 .2) (c .before .before .before .before .if1 .left) (c .before .before .fill .ensures)
+    body-read _ _ _ _ _ sized good _ _ (start .pre .0) (start .pre .2) (c .before .before .before .before .if1 .left) (c .before .before .fill .ensures)
 
 pub body-spec : {M : Type 1} → statement M
 body-spec =

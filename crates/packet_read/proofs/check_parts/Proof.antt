@@ -12,10 +12,10 @@ use Rattle.packet_read.proofs.check_parts.Statement.{statement}
 use Rattle.packet_read.proofs.check_parts.Tie as tie
 
 abbrev Inv-loop : tie.InvT-loop
-Inv-loop table input count sums at₀ index₀ at index = (index ≤ count) × (at ≡ start input count index) × (firstFrom (partFails input count) index (count - index) ≡ firstFailing input count)
+Inv-loop input count sums at₀ index₀ at index = (index ≤ count) × (at ≡ start input count index) × (firstFrom (partFails input count) index (count - index) ≡ firstFailing input count)
 
 abbrev μ-loop : tie.MeasureT-loop
-μ-loop table input count sums at₀ index₀ at index = count - index
+μ-loop input count sums at₀ index₀ at index = count - index
 
 mul-sums : tie.Need-mul-sums Inv-loop μ-loop
 mul-sums c = omega arith

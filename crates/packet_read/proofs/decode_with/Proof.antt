@@ -6,9 +6,6 @@ use borrow.Author.Needs.{needs}
 use Rattle.packet_read.proofs.decode_with.Statement.{statement}
 use Rattle.packet_read.proofs.decode_with.Tie as tie
 
-table-requires : tie.Need-table-requires
-table-requires c κs = search needs
-
 fixed-header-requires : tie.Need-fixed-header-requires
 fixed-header-requires c κs = search needs
 
@@ -39,19 +36,17 @@ cast-body : tie.Need-cast-body
 cast-body c = search needs
 
 body-requires : tie.Need-body-requires
-body-requires c κs = let k = c .before .before .before .before .before .before .before .before .before in
-    let packet = c .before .before .before .before .before .before .before .packet .given .0 .0 in
-    let header = rw (c .before .before .before .before .before .before .before .packet .given .1) at (k .fixed-header .ensures) in
-    (k .before .before .table .ensures, (header .2, omega (arith, c .before .before .before .before .before .most-parts .ensures, c .before .before .before .before .if1 .left), parts-counted _ packet (header .2)))
+body-requires c κs = let packet = c .before .before .before .before .before .before .packet .given .0 .0 in
+    let header = rw (c .before .before .before .before .before .before .packet .given .1) at (c .before .before .before .before .before .before .before .before .fixed-header .ensures) in
+    (header .2, omega (arith, c .before .before .before .before .most-parts .ensures, c .before .before .before .if1 .left), parts-counted _ packet (header .2))
 
 same-length : tie.Need-same-length
 same-length c = search needs
 
 returns-2 : tie.Need-returns-2
-returns-2 c = let k = c .before .before .before .before .before .before .before .before .before .before .before .before in
-    let packet = c .before .before .before .before .before .before .before .before .before .before .packet .given .0 .0 in
-    let header = rw (c .before .before .before .before .before .before .before .before .before .before .packet .given .1) at (k .fixed-header .ensures) in
-    read-body _ _ _ _ _ packet header _ (c .before .before .before .before .before .before .before .before .most-parts .ensures) (c .before .before .before .before .before .before .before .if1 .left) _ (c .before .before .before .before .before .before .has-variable-header .ensures) _ _ (c .before .before .before .before .before .if2 .taken) (c .before .before .body .ensures)
+returns-2 c = let packet = c .before .before .before .before .before .before .before .before .before .packet .given .0 .0 in
+    let header = rw (c .before .before .before .before .before .before .before .before .before .packet .given .1) at (c .before .before .before .before .before .before .before .before .before .before .before .fixed-header .ensures) in
+    read-body _ _ _ _ _ packet header _ (c .before .before .before .before .before .before .before .most-parts .ensures) (c .before .before .before .before .before .before .if1 .left) _ (c .before .before .before .before .before .has-variable-header .ensures) _ _ (c .before .before .before .before .if2 .taken) (c .before .before .body .ensures)
 
 returns-3 : tie.Need-returns-3
 returns-3 c = read-more _ _ _ _ _ (rw (c .enum-told .given .1) at (c .before .before .fixed-header .ensures))
@@ -68,7 +63,6 @@ pub decode-with-spec : {M : Type 1} → statement M
 decode-with-spec =
     tie.close
     (tie.spec
-    table-requires
     fixed-header-requires
     enum-told
     enum-known-error

@@ -14,10 +14,16 @@ use Rattle.packet_read.proofs.fill.Statement.{statement}
 use Rattle.packet_read.proofs.fill.Tie as tie
 
 abbrev Inv-loop : tie.InvT-loop
-Inv-loop input count parts₀ at₀ index₀ parts at index = (index ≤ count) × (at ≡ start input count index) × (parts ≡ over (entriesFrom input count 0 index) parts₀)
+Inv-loop input count parts₀ sums at₀ index₀ parts at index = (index ≤ count) × (at ≡ start input count index) × (parts ≡ over (entriesFrom input count 0 index) parts₀)
 
 abbrev μ-loop : tie.MeasureT-loop
-μ-loop input count parts₀ at₀ index₀ parts at index = count - index
+μ-loop input count parts₀ sums at₀ index₀ parts at index = count - index
+
+mul-sums : tie.Need-mul-sums Inv-loop μ-loop
+mul-sums c = omega arith
+
+add-sums : tie.Need-add-sums Inv-loop μ-loop
+add-sums c = omega arith
 
 mul-at : tie.Need-mul-at Inv-loop μ-loop
 mul-at c = omega arith
@@ -38,6 +44,15 @@ add-read-u32 c = omega arith
 read-u32-requires : tie.Need-read-u32-requires Inv-loop μ-loop
 read-u32-requires c κs = search needs
 
+mul-read-u64 : tie.Need-mul-read-u64 Inv-loop μ-loop
+mul-read-u64 c = omega arith
+
+add-read-u64 : tie.Need-add-read-u64 Inv-loop μ-loop
+add-read-u64 c = omega arith
+
+read-u64-requires : tie.Need-read-u64-requires Inv-loop μ-loop
+read-u64-requires c κs = search needs
+
 offset-word-requires : tie.Need-offset-word-requires Inv-loop μ-loop
 offset-word-requires c κs = search needs
 
@@ -48,8 +63,8 @@ mul-parts-2 : tie.Need-mul-parts-2 Inv-loop μ-loop
 mul-parts-2 c = omega arith
 
 slice-write-parts : tie.Need-slice-write-parts Inv-loop μ-loop
-slice-write-parts c = let l = c .before .before .before .loop in
-    let start = c .before .before .before .before .before .before in
+slice-write-parts c = let l = c .before .before .before .before .loop in
+    let start = c .before .before .before .before .before .before .before in
     omega (arith, length-filled (start .args .input .now) (start .args .count) (l .index) (l .parts) (start .args .parts .now) (l .inv .2) (omega arith))
 
 length-word-requires : tie.Need-length-word-requires Inv-loop μ-loop
@@ -65,17 +80,31 @@ mul-parts-4 : tie.Need-mul-parts-4 Inv-loop μ-loop
 mul-parts-4 c = omega arith
 
 slice-write-parts-2 : tie.Need-slice-write-parts-2 Inv-loop μ-loop
-slice-write-parts-2 c = let l = c .before .before .before .before .loop in
-    let start = c .before .before .before .before .before .before .before in
+slice-write-parts-2 c = let l = c .before .before .before .before .before .loop in
+    let start = c .before .before .before .before .before .before .before .before in
+    simp length-set (omega (arith, length-filled (start .args .input .now) (start .args .count) (l .index) (l .parts) (start .args .parts .now) (l .inv .2) (omega arith)))
+
+mul-parts-5 : tie.Need-mul-parts-5 Inv-loop μ-loop
+mul-parts-5 c = omega arith
+
+add-parts-2 : tie.Need-add-parts-2 Inv-loop μ-loop
+add-parts-2 c = omega arith
+
+mul-parts-6 : tie.Need-mul-parts-6 Inv-loop μ-loop
+mul-parts-6 c = omega arith
+
+slice-write-parts-3 : tie.Need-slice-write-parts-3 Inv-loop μ-loop
+slice-write-parts-3 c = let l = c .before .before .before .before .before .loop in
+    let start = c .before .before .before .before .before .before .before .before in
     simp length-set (omega (arith, length-filled (start .args .input .now) (start .args .count) (l .index) (l .parts) (start .args .parts .now) (l .inv .2) (omega arith)))
 
 taken-requires : tie.Need-taken-requires Inv-loop μ-loop
 taken-requires c κs = search needs
 
 add-at-2 : tie.Need-add-at-2 Inv-loop μ-loop
-add-at-2 c = let l = c .before .before .before .before .before .loop in
-    let start = c .before .before .before .before .before .before .before .before in
-    omega (arith, start .pre, start .good, part-inside _ _ (l .index) _ _ _ (l .inv .1) (c .before .before .before .read-u32 .ensures) (c .taken .ensures) (c .before .before .before .before .loop-test .taken))
+add-at-2 c = let l = c .before .before .before .before .before .before .loop in
+    let start = c .before .before .before .before .before .before .before .before .before in
+    omega (arith, start .pre, start .good, part-inside _ _ (l .index) _ _ _ (l .inv .1) (c .before .before .before .before .read-u32 .ensures) (c .taken .ensures) (c .before .before .before .before .before .loop-test .taken))
 
 add-index : tie.Need-add-index Inv-loop μ-loop
 add-index c = omega arith
@@ -84,11 +113,11 @@ loop-less : tie.Need-loop-less Inv-loop μ-loop
 loop-less c = omega arith
 
 loop-again : tie.Need-loop-again Inv-loop μ-loop
-loop-again c = let l = c .before .before .before .before .before .loop in
-    let read = c .before .before .before .read-u32 .ensures in
-    let room = c .before .before .before .before .loop-test .taken in
-    let start = c .before .before .before .before .before .before .before .before in
-    (omega arith, start-next _ _ (l .index) _ _ _ (l .inv .1) read (c .taken .ensures), entries-step _ _ (l .index) _ _ _ _ _ (start .args .parts .now) (l .inv .1) read (c .before .before .offset-word .ensures) (c .before .length-word .ensures) (l .inv .2) (omega (arith, start .pre)))
+loop-again c = let l = c .before .before .before .before .before .before .loop in
+    let read = c .before .before .before .before .read-u32 .ensures in
+    let stored = c .before .before .before .read-u64 .ensures in
+    let start = c .before .before .before .before .before .before .before .before .before in
+    (omega arith, start-next _ _ (l .index) _ _ _ (l .inv .1) read (c .taken .ensures), entries-step _ _ (l .index) _ _ _ _ _ _ (start .args .parts .now) (l .inv .1) read stored (c .before .before .offset-word .ensures) (c .before .length-word .ensures) (l .inv .2) (omega (arith, start .pre)))
 
 same-length : tie.Need-same-length Inv-loop μ-loop
 same-length c = let l = c .before .loop in
@@ -106,12 +135,17 @@ fill-spec =
     (tie.spec
     Inv-loop
     μ-loop
+    mul-sums
+    add-sums
     mul-at
     add-at
     loop-holds
     mul-read-u32
     add-read-u32
     read-u32-requires
+    mul-read-u64
+    add-read-u64
+    read-u64-requires
     offset-word-requires
     mul-parts
     mul-parts-2
@@ -121,6 +155,10 @@ fill-spec =
     add-parts
     mul-parts-4
     slice-write-parts-2
+    mul-parts-5
+    add-parts-2
+    mul-parts-6
+    slice-write-parts-3
     taken-requires
     add-at-2
     add-index

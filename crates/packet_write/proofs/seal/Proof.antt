@@ -5,23 +5,20 @@ use Prim.Native.Nat.{ℕ}
 use native.Mathlib.Omega.{arith}
 use lib.ListN.{take}
 use lib.Seq.{length-take-le}
-use Rattle.words.specs.Word.{Bytes}
 use Rattle.crc64.specs.Polynomial.{checksum}
-use Rattle.crc64.proofs.Burst.{bytes-take}
-use Rattle.crc64.proofs.Entries.{checksum-over-is}
 use Rattle.packet_write.proofs.FillingLaws.{sealing, word-closes}
 use borrow.Author.Needs.{needs}
 use Rattle.packet_write.proofs.seal.Statement.{statement}
 use Rattle.packet_write.proofs.seal.Tie as tie
 
-slice-reshare-prefix-checksum-over : tie.Need-slice-reshare-prefix-checksum-over
-slice-reshare-prefix-checksum-over c = search needs
+slice-reshare-prefix-checksum : tie.Need-slice-reshare-prefix-checksum
+slice-reshare-prefix-checksum c = search needs
 
-slice-aggregate-checksum-over : tie.Need-slice-aggregate-checksum-over
-slice-aggregate-checksum-over c = sym (length-take-le (c .before .before .args .size) (c .before .before .args .out .now) (omega arith))
+slice-aggregate-checksum : tie.Need-slice-aggregate-checksum
+slice-aggregate-checksum c = sym (length-take-le (c .before .before .args .size) (c .before .before .args .out .now) (omega arith))
 
-checksum-over-requires : tie.Need-checksum-over-requires
-checksum-over-requires c κs = search needs
+checksum-requires : tie.Need-checksum-requires
+checksum-requires c κs = search needs
 
 sub-write-u64 : tie.Need-sub-write-u64
 sub-write-u64 c = search needs
@@ -43,17 +40,15 @@ returns c =
     let start = c .before .before .before .before .before .before .before in
     let size : ℕ = start .args .size in
     let before : List ℕ = start .args .out .now in
-    let known : Bytes before = λ i. c .before .before .before .before .before .before .slice-known .given i .fits in
-    let sum = checksum-over-is (take size before) (start .pre .0) (c .before .before .before .before .checksum-over .ensures) (bytes-take size before known) in
-    word-closes 8 (checksum (take size before)) (sealing size before (start .pre .1)) (rw sum at (c .before .before .write-u64 .ensures))
+    word-closes 8 (checksum (take size before)) (sealing size before (start .pre)) (rw (c .before .before .before .before .checksum .ensures) at (c .before .before .write-u64 .ensures))
 
 pub seal-spec : {M : Type 1} → statement M
 seal-spec =
     tie.close
     (tie.spec
-    slice-reshare-prefix-checksum-over
-    slice-aggregate-checksum-over
-    checksum-over-requires
+    slice-reshare-prefix-checksum
+    slice-aggregate-checksum
+    checksum-requires
     sub-write-u64
     part-write-u64-start
     part-write-u64-end

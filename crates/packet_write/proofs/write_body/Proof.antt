@@ -21,7 +21,7 @@ start-sized c = c .before .before .before .before .before .before .before
 at-sized : (c : tie.After-slice-known2) → Sized (start-sized c .args .area .now) (start-sized c .args .parts .now) (start-sized c .args .out .now) (now-sized c)
 at-sized c =
     let start = start-sized c in
-    sizes-written (start .args .area .now) (start .args .parts .now) (start .args .out .now) (start .pre .1 .0) (start .pre .1 .1) (c .before .before .write-sizes .ensures)
+    sizes-written (start .args .area .now) (start .args .parts .now) (start .args .out .now) (start .pre .0) (start .pre .1) (c .before .before .write-sizes .ensures)
 
 abbrev start-summed : tie.After-slice-known3 → tie.Start
 start-summed c = c .before .before .before .before .before .before .before .before .before .before .before
@@ -29,7 +29,7 @@ start-summed c = c .before .before .before .before .before .before .before .befo
 abbrev now-summed : tie.After-slice-known3 → List ℕ
 now-summed c =
     let at : ℕ = 4 * room (start-summed c .args .parts .now) in
-    putMid at (length (now-sized (c .before .before .before .before)) - at) (now-sized (c .before .before .before .before)) (c .before .before .write-sums .last .1 .1 .1 .0)
+    putMid at (length (now-sized (c .before .before .before .before)) - at) (now-sized (c .before .before .before .before)) (c .before .before .write-sums .last .1 .1 .0)
 
 at-summed : (c : tie.After-slice-known3) → Summed (start-summed c .args .area .now) (start-summed c .args .parts .now) (start-summed c .args .out .now) (now-summed c)
 at-summed c =
@@ -37,7 +37,7 @@ at-summed c =
     sums-written (start .area .now) (start .parts .now) (start .out .now) (at-sized (c .before .before .before .before)) (c .before .before .write-sums .ensures)
 
 abbrev now-guarded : tie.After-slice-known4 → List ℕ
-now-guarded c = c .before .before .seal .last .1 .1 .0
+now-guarded c = c .before .before .seal .last .1 .0
 
 abbrev start-guarded : tie.After-slice-known4 → tie.Start
 start-guarded c = c .before .before .before .before .before .before .before .before .before .before .before .before .before .before .before
@@ -50,7 +50,7 @@ at-guarded c =
 write-sizes-requires : tie.Need-write-sizes-requires
 write-sizes-requires c κs =
     let start = c .before .before .before .before in
-    (start .pre .1 .0 .small, omega (arith, body-room (start .args .area .now) (start .args .parts .now) (start .args .out .now) (start .pre .1 .1)))
+    (start .pre .0 .small, omega (arith, body-room (start .args .area .now) (start .args .parts .now) (start .args .out .now) (start .pre .1)))
 
 mul-sums : tie.Need-mul-sums
 mul-sums c = search needs
@@ -67,7 +67,7 @@ part-write-sums-end c = search needs
 write-sums-requires : tie.Need-write-sums-requires
 write-sums-requires c κs =
     let start = c .before .before .before .before .before .before .before .before in
-    (start .pre .0, (start .pre .1 .0 .inside, sums-room (start .args .area .now) (start .args .parts .now) (start .args .out .now) (at-sized (c .before))))
+    (start .pre .0 .inside, sums-room (start .args .area .now) (start .args .parts .now) (start .args .out .now) (at-sized (c .before)))
 
 mul-size : tie.Need-mul-size
 mul-size c = search needs
@@ -75,7 +75,7 @@ mul-size c = search needs
 seal-requires : tie.Need-seal-requires
 seal-requires c κs =
     let start = c .before .before .before .before .before .before .before .before .before .before .before .before in
-    (start .pre .0, guard-room (start .args .area .now) (start .args .parts .now) (start .args .out .now) (at-summed (c .before)))
+    guard-room (start .args .area .now) (start .args .parts .now) (start .args .out .now) (at-summed (c .before))
 
 add-contents : tie.Need-add-contents
 add-contents c = search needs
@@ -92,7 +92,7 @@ part-write-contents-end c = search needs
 write-contents-requires : tie.Need-write-contents-requires
 write-contents-requires c κs =
     let start = c .before .before .before .before .before .before .before .before .before .before .before .before .before .before .before .before in
-    (start .pre .1 .0 .inside, contents-room (start .args .area .now) (start .args .parts .now) (start .args .out .now) (at-guarded (c .before)))
+    (start .pre .0 .inside, contents-room (start .args .area .now) (start .args .parts .now) (start .args .out .now) (at-guarded (c .before)))
 
 same-length : tie.Need-same-length
 same-length c = search needs

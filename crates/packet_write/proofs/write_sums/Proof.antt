@@ -7,38 +7,35 @@ use native.Mathlib.Nat.{sub-zero}
 use native.Mathlib.Omega.{arith}
 use borrow.Author.Needs.{needs}
 use lib.ListN.{length}
-use Rattle.words.specs.Word.{Bytes}
 use Rattle.crc64.specs.Polynomial.{checksum}
-use Rattle.crc64.proofs.Entries.{checksum-over-is}
 use Rattle.packet.specs.Entries.{room}
-use Rattle.packet.specs.Entries.{lentAt}
 use Rattle.packet.specs.Wire.{sums, sumWord, partAt, partsFrom, partsOf}
 use Rattle.packet_check.proofs.WireLaws.{length-parts}
 use Rattle.words.specs.Filling.{Filling}
 use Rattle.packet_write.proofs.FillingLaws.{begins, place, length-now, word-step, ends}
-use Rattle.packet_write.proofs.PieceLaws.{bytes-lent, length-sums, parts-next, parts-end, lent-content, sum-content}
+use Rattle.packet_write.proofs.PieceLaws.{length-sums, parts-next, parts-end, lent-content, sum-content}
 use Rattle.packet_write.proofs.write_sums.Statement.{statement}
 use Rattle.packet_write.proofs.write_sums.Tie as tie
 
 abbrev Inv-loop : tie.InvT-loop
-Inv-loop table area parts out₀ count index₀ out index = (index ≤ room parts) × Filling (sums (partsOf area parts)) (sums (partsFrom area parts index (room parts - index))) out₀ out (8 * index)
+Inv-loop area parts out₀ count index₀ out index = (index ≤ room parts) × Filling (sums (partsOf area parts)) (sums (partsFrom area parts index (room parts - index))) out₀ out (8 * index)
 
 abbrev μ-loop : tie.MeasureT-loop
-μ-loop table area parts out₀ count index₀ out index = count - index
+μ-loop area parts out₀ count index₀ out index = count - index
 
 loop-holds : tie.Need-loop-holds Inv-loop μ-loop
 loop-holds c =
     let start = c .before .before .before in
     let area : List ℕ = start .args .area .now in
     let table : List ℕ = start .args .parts .now in
-    let ready : 8 * length (partsOf area table) ≤ length (start .args .out .now) = rw (length-parts table area 0 (room table)) (start .pre .1 .1) in
+    let ready : 8 * length (partsOf area table) ≤ length (start .args .out .now) = rw (length-parts table area 0 (room table)) (start .pre .1) in
     (search needs, rw (sub-zero (room table)) (begins (sums (partsOf area table)) (start .args .out .now) (rw (length-sums (partsOf area table)) ready)))
 
 part-requires : tie.Need-part-requires Inv-loop μ-loop
 part-requires c κs = search needs
 
-checksum-over-requires : tie.Need-checksum-over-requires Inv-loop μ-loop
-checksum-over-requires c κs = search needs
+checksum-requires : tie.Need-checksum-requires Inv-loop μ-loop
+checksum-requires c κs = search needs
 
 mul-at : tie.Need-mul-at Inv-loop μ-loop
 mul-at c = search needs
@@ -68,11 +65,9 @@ loop-again c =
     let at = c .before .before .before .before .before .before .before .loop in
     let area : List ℕ = start .args .area .now in
     let table : List ℕ = start .args .parts .now in
-    let known : Bytes area = λ i. c .before .before .before .before .before .before .before .before .before .before .shared-slice-known .given i .fits in
     let below : at .index < room table = search needs in
-    let over = rw (c .before .before .before .before .before .part .ensures .bytes) at (c .before .before .before .before .checksum-over .ensures) in
-    let sum = checksum-over-is (lentAt area table (at .index)) (start .pre .0) over (bytes-lent area table (at .index) known)
-    ∙ ap (λ (bs : List ℕ). checksum bs) (lent-content area table (start .pre .1 .0) (at .index) below) ∙ sym (sum-content (partAt area table (at .index))) in
+    let sum = rw (c .before .before .before .before .before .part .ensures .bytes) at (c .before .before .before .before .checksum .ensures)
+    ∙ ap (λ (bs : List ℕ). checksum bs) (lent-content area table (start .pre .0) (at .index) below) ∙ sym (sum-content (partAt area table (at .index))) in
     let filling = rw (parts-next area table (at .index) (room table) below) at (at .inv .1) in
     let rest : List ℕ = sums (partsFrom area table (at .index + 1) (room table - (at .index + 1))) in
     (search needs, word-step 8 (sumWord (partAt area table (at .index))) rest (8 * (at .index + 1)) filling (omega arith) (rw sum at (c .before .before .write-u64 .ensures)))
@@ -95,7 +90,7 @@ write-sums-spec =
     μ-loop
     loop-holds
     part-requires
-    checksum-over-requires
+    checksum-requires
     mul-at
     sub-write-u64
     part-write-u64-start

@@ -1,5 +1,4 @@
 -- `cablefinch_guid_parse` meets its contract: the library's answer in words. Assumes nothing.
-use Rattle.words.proofs.PaperLaws.{told}
 use borrow.Author.Needs.{needs}
 use Rattle.face.proofs.ids.cablefinch_guid_parse.Statement.{statement}
 use Rattle.face.proofs.ids.cablefinch_guid_parse.Tie as tie
@@ -11,7 +10,7 @@ parsed-outcome-requires : tie.Need-parsed-outcome-requires
 parsed-outcome-requires c κs = search needs
 
 returns : tie.Need-returns
-returns c = told (c .before .parse .ensures) (c .parsed-outcome .ensures)
+returns c = (c .before .parse .result, c .before .parse .ensures, c .parsed-outcome .ensures)
 
 pub cablefinch-guid-parse-spec : {M : Type 1} → statement M
 cablefinch-guid-parse-spec = tie.close (tie.spec parse-requires parsed-outcome-requires returns)

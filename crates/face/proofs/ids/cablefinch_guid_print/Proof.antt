@@ -6,7 +6,7 @@ use lib.ListN.{length}
 use Rattle.words.specs.Statement.{Holds}
 use Rattle.words.proofs.PaperLaws.{told}
 use Rattle.guid.specs.declared.Guid.{Guid}
-use Rattle.guid.specs.Text.{printing, textOf}
+use Rattle.guid_text.specs.Text.{printing, textOf}
 use borrow.Author.Needs.{needs}
 use Rattle.face.proofs.ids.cablefinch_guid_print.Statement.{statement}
 use Rattle.face.proofs.ids.cablefinch_guid_print.Tie as tie

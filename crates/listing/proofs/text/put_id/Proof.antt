@@ -2,7 +2,7 @@
 use mathlib.Core.Path.{ap}
 use Prim.Native.Nat.{ℕ, _+_}
 use native.Mathlib.Omega.{arith}
-use Rattle.guid.specs.Text.{textOf}
+use Rattle.guid_text.specs.Text.{textOf}
 use Rattle.listing.proofs.TextLaws.{printed-fits, fits-tail}
 use Rattle.listing.specs.Stages.{Wrote}
 use Rattle.listing.proofs.TextLaws.{wrote-tail, wrote-behind, id-short}

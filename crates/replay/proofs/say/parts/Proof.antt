@@ -38,6 +38,18 @@ mul-part-4 c = search needs
 shared-slice-read-part-2 : tie.Need-shared-slice-read-part-2 Inv-loop μ-loop
 shared-slice-read-part-2 c = search needs
 
+mul-part-5 : tie.Need-mul-part-5 Inv-loop μ-loop
+mul-part-5 c = search needs
+
+add-part-2 : tie.Need-add-part-2 Inv-loop μ-loop
+add-part-2 c = search needs
+
+mul-part-6 : tie.Need-mul-part-6 Inv-loop μ-loop
+mul-part-6 c = search needs
+
+shared-slice-read-part-3 : tie.Need-shared-slice-read-part-3 Inv-loop μ-loop
+shared-slice-read-part-3 c = search needs
+
 part-requires : tie.Need-part-requires Inv-loop μ-loop
 part-requires c κs = search needs
 
@@ -68,6 +80,10 @@ parts-spec =
     add-part
     mul-part-4
     shared-slice-read-part-2
+    mul-part-5
+    add-part-2
+    mul-part-6
+    shared-slice-read-part-3
     part-requires
     add-i
     loop-less

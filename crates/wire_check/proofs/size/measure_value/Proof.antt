@@ -1,6 +1,6 @@
 -- `size::measure_value` meets its contract: 12, or 13 for what the kind's payload takes. Assumes nothing.
 use native.Mathlib.Omega.{arith}
-use Rattle.wire.proofs.KindLaws.{kind-null, kind-word, kind-boolean, kind-blob, kind-unknown}
+use Rattle.wire.proofs.KindLaws.{kind-null, kind-scalar, kind-blob, kind-unknown}
 use Rattle.wire.proofs.TypeLaws.{scalar-low, blob-low}
 use Rattle.wire_check.proofs.WalkLaws.{none-adds, scalar-adds, blob-long, blob-adds}
 use borrow.Author.Needs.{needs}
@@ -34,15 +34,6 @@ add-to-rowset-size-requires-3 c κs = search needs
 enum-told-4 : tie.Need-enum-told-4
 enum-told-4 c = search needs
 
-add-add-to-rowset-size-2 : tie.Need-add-add-to-rowset-size-2
-add-add-to-rowset-size-2 c = search needs
-
-add-to-rowset-size-requires-4 : tie.Need-add-to-rowset-size-requires-4
-add-to-rowset-size-requires-4 c κs = search needs
-
-enum-told-5 : tie.Need-enum-told-5
-enum-told-5 c = search needs
-
 cast-if1 : tie.Need-cast-if1
 cast-if1 c = search needs
 
@@ -52,7 +43,7 @@ cap-requires c κs = search needs
 returns : tie.Need-returns
 returns c =
     let start = c .before .before .before .before .before in
-    let blob = kind-blob (start .args .kind) _ (c .before .before .before .before .kind-of .ensures) (c .before .before .enum-told5 .given .1) in
+    let blob = kind-blob (start .args .kind) _ (c .before .before .before .before .kind-of .ensures) (c .before .before .enum-told4 .given .1) in
     blob-long (start .args .kind) (start .args .length) (start .args .size) (blob .0) (omega (arith, blob .1)) (c .before .if1 .taken) _ (c .cap .ensures)
 
 cast-padded : tie.Need-cast-padded
@@ -61,11 +52,11 @@ cast-padded c = search needs
 padded-requires : tie.Need-padded-requires
 padded-requires c κs = search needs
 
-add-add-to-rowset-size-3 : tie.Need-add-add-to-rowset-size-3
-add-add-to-rowset-size-3 c = search needs
+add-add-to-rowset-size-2 : tie.Need-add-add-to-rowset-size-2
+add-add-to-rowset-size-2 c = search needs
 
-add-to-rowset-size-requires-5 : tie.Need-add-to-rowset-size-requires-5
-add-to-rowset-size-requires-5 c κs = search needs
+add-to-rowset-size-requires-4 : tie.Need-add-to-rowset-size-requires-4
+add-to-rowset-size-requires-4 c κs = search needs
 
 returns-2 : tie.Need-returns-2
 returns-2 c =
@@ -76,26 +67,20 @@ returns-2 c =
 returns-3 : tie.Need-returns-3
 returns-3 c =
     let start = c .before .before .before .before in
-    let none = kind-unknown (start .args .kind) _ (c .before .before .before .kind-of .ensures) (c .before .enum-told2 .given .1) in
-    none-adds (start .args .kind) (start .args .length) (start .args .size) (none .1) (none .2) (c .add-to-rowset-size2 .result) (c .add-to-rowset-size2 .ensures)
+    let unknown = kind-unknown (start .args .kind) _ (c .before .before .before .kind-of .ensures) (c .before .enum-told2 .given .1) in
+    none-adds (start .args .kind) (start .args .length) (start .args .size) (unknown .1) (unknown .2) (c .add-to-rowset-size2 .result) (c .add-to-rowset-size2 .ensures)
 
 returns-4 : tie.Need-returns-4
 returns-4 c =
     let start = c .before .before .before .before in
-    let word = kind-word (start .args .kind) _ (c .before .before .before .kind-of .ensures) (c .before .enum-told3 .given .1) in
-    scalar-adds (start .args .kind) (start .args .length) (start .args .size) (word .0) (omega (arith, word .1)) (c .add-to-rowset-size3 .result) (c .add-to-rowset-size3 .ensures)
+    let scalar = kind-scalar (start .args .kind) _ (c .before .before .before .kind-of .ensures) (c .before .enum-told3 .given .1) in
+    scalar-adds (start .args .kind) (start .args .length) (start .args .size) (scalar .0) (omega (arith, scalar .1)) (c .add-to-rowset-size3 .result) (c .add-to-rowset-size3 .ensures)
 
 returns-5 : tie.Need-returns-5
 returns-5 c =
-    let start = c .before .before .before .before in
-    let boolean = kind-boolean (start .args .kind) _ (c .before .before .before .kind-of .ensures) (c .before .enum-told4 .given .1) in
-    scalar-adds (start .args .kind) (start .args .length) (start .args .size) (omega (arith, boolean)) (omega (arith, boolean)) (c .add-to-rowset-size4 .result) (c .add-to-rowset-size4 .ensures)
-
-returns-6 : tie.Need-returns-6
-returns-6 c =
     let start = c .before .before .before .before .before .before in
-    let blob = kind-blob (start .args .kind) _ (c .before .before .before .before .before .kind-of .ensures) (c .before .before .before .enum-told5 .given .1) in
-    blob-adds (start .args .kind) (start .args .length) (start .args .size) (blob .0) (omega (arith, blob .1)) (c .before .before .if1 .left) _ (c .before .padded .ensures) (c .add-to-rowset-size5 .result) (c .add-to-rowset-size5 .ensures)
+    let blob = kind-blob (start .args .kind) _ (c .before .before .before .before .before .kind-of .ensures) (c .before .before .before .enum-told4 .given .1) in
+    blob-adds (start .args .kind) (start .args .length) (start .args .size) (blob .0) (omega (arith, blob .1)) (c .before .before .if1 .left) _ (c .before .padded .ensures) (c .add-to-rowset-size4 .result) (c .add-to-rowset-size4 .ensures)
 
 pub measure-value-spec : {M : Type 1} → statement M
 measure-value-spec =
@@ -110,18 +95,14 @@ measure-value-spec =
     add-add-to-rowset-size
     add-to-rowset-size-requires-3
     enum-told-4
-    add-add-to-rowset-size-2
-    add-to-rowset-size-requires-4
-    enum-told-5
     cast-if1
     cap-requires
     returns
     cast-padded
     padded-requires
-    add-add-to-rowset-size-3
-    add-to-rowset-size-requires-5
+    add-add-to-rowset-size-2
+    add-to-rowset-size-requires-4
     returns-2
     returns-3
     returns-4
-    returns-5
-    returns-6)
+    returns-5)

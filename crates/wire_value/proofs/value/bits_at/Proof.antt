@@ -1,7 +1,7 @@
--- `value::bits_at` meets its contract: no scalar, a word as it is, or a boolean. Assumes nothing.
+-- `value::bits_at` meets its contract: no scalar, or a scalar's bits. Assumes nothing.
 use native.Mathlib.Omega.{arith}
-use Rattle.wire_value.proofs.ValueLaws.{bits-none, bits-word, bits-boolean}
-use Rattle.wire.proofs.KindLaws.{kind-null, kind-word, kind-boolean, kind-blob, kind-unknown}
+use Rattle.wire_value.proofs.ValueLaws.{bits-none, bits-scalar}
+use Rattle.wire.proofs.KindLaws.{kind-null, kind-scalar, kind-blob, kind-unknown}
 use Rattle.wire.proofs.TypeLaws.{scalar-low, scalar-high}
 use borrow.Author.Needs.{needs}
 use Rattle.wire_value.proofs.value.bits_at.Statement.{statement}
@@ -28,17 +28,8 @@ add-read-u64 c = search needs
 read-u64-requires : tie.Need-read-u64-requires
 read-u64-requires c κs = search needs
 
-enum-told-5 : tie.Need-enum-told-5
-enum-told-5 c = search needs
-
-add-read-u64-2 : tie.Need-add-read-u64-2
-add-read-u64-2 c = search needs
-
-read-u64-requires-2 : tie.Need-read-u64-requires-2
-read-u64-requires-2 c κs = search needs
-
-flag-requires : tie.Need-flag-requires
-flag-requires c κs = search needs
+bits-of-requires : tie.Need-bits-of-requires
+bits-of-requires c κs = search needs
 
 returns : tie.Need-returns
 returns c =
@@ -59,15 +50,9 @@ returns-3 c =
 
 returns-4 : tie.Need-returns-4
 returns-4 c =
-    let start = c .before .before .before .before .before in
-    let word = kind-word (start .args .kind) _ (c .before .before .before .kind-of .ensures) (c .before .enum-told4 .given .1) in
-    bits-word (start .args .input .now) (start .args .at) (start .args .kind) (start .pre .1) (word .0) (word .1) _ (c .read-u64 .ensures)
-
-returns-5 : tie.Need-returns-5
-returns-5 c =
     let start = c .before .before .before .before .before .before in
-    let boolean = kind-boolean (start .args .kind) _ (c .before .before .before .before .kind-of .ensures) (c .before .before .enum-told5 .given .1) in
-    bits-boolean (start .args .input .now) (start .args .at) (start .args .kind) (start .pre .1) boolean _ _ (c .before .read-u642 .ensures) (c .flag .ensures)
+    let scalar = kind-scalar (start .args .kind) _ (c .before .before .before .before .kind-of .ensures) (c .before .before .enum-told4 .given .1) in
+    bits-scalar (start .args .input .now) (start .args .at) (start .args .kind) (start .pre .1) (scalar .0) (scalar .1) _ _ (c .before .read-u64 .ensures) (c .bits-of .ensures)
 
 pub bits-at-spec : {M : Type 1} → statement M
 bits-at-spec =
@@ -80,12 +65,8 @@ bits-at-spec =
     enum-told-4
     add-read-u64
     read-u64-requires
-    enum-told-5
-    add-read-u64-2
-    read-u64-requires-2
-    flag-requires
+    bits-of-requires
     returns
     returns-2
     returns-3
-    returns-4
-    returns-5)
+    returns-4)

@@ -3,7 +3,7 @@ use mathlib.Core.Path.{sym, _∙_}
 use mathlib.Core.Bool.{true≢false}
 use native.Mathlib.Omega.{arith}
 use lib.ListN.{length}
-use Rattle.wire.proofs.KindLaws.{kind-null, kind-word, kind-boolean, kind-blob, kind-unknown}
+use Rattle.wire.proofs.KindLaws.{kind-null, kind-scalar, kind-blob, kind-unknown}
 use Rattle.wire_write.proofs.LengthLaws.{good-known}
 use Rattle.wire_write.proofs.BytesLaws.{value-within, null-puts, scalar-puts, blob-room, value-puts}
 use borrow.Author.Needs.{needs}
@@ -50,28 +50,6 @@ add-result c = search needs
 enum-told-4 : tie.Need-enum-told-4
 enum-told-4 c = search needs
 
-sub-write-u64-2 : tie.Need-sub-write-u64-2
-sub-write-u64-2 c =
-    let start = c .before .before .before .before .before .before .before .before .before .before in
-    value-within (start .args .area .now) (start .args .id) (start .args .kind) (start .args .aggregate) (start .args .bits) (start .args .length) (start .pre .0) (start .args .out .now) (start .pre .1) (c .before .before .before .before .before .before .header .result) (c .before .before .before .before .before .before .header .ensures) (c .before .before .before .before .before .write-u64 .last .0) (c .before .before .before .before .before .write-u64 .ensures)
-
-part-write-u64-start-2 : tie.Need-part-write-u64-start-2
-part-write-u64-start-2 c =
-    let start = c .before .before .before .before .before .before .before .before .before .before in
-    value-within (start .args .area .now) (start .args .id) (start .args .kind) (start .args .aggregate) (start .args .bits) (start .args .length) (start .pre .0) (start .args .out .now) (start .pre .1) (c .before .before .before .before .before .before .header .result) (c .before .before .before .before .before .before .header .ensures) (c .before .before .before .before .before .write-u64 .last .0) (c .before .before .before .before .before .write-u64 .ensures)
-
-part-write-u64-end-2 : tie.Need-part-write-u64-end-2
-part-write-u64-end-2 c = search needs
-
-write-u64-requires-3 : tie.Need-write-u64-requires-3
-write-u64-requires-3 c κs = search needs
-
-add-result-2 : tie.Need-add-result-2
-add-result-2 c = search needs
-
-enum-told-5 : tie.Need-enum-told-5
-enum-told-5 c = search needs
-
 sub-write-blob : tie.Need-sub-write-blob
 sub-write-blob c =
     let start = c .before .before .before .before .before .before .before .before .before .before in
@@ -88,13 +66,13 @@ part-write-blob-end c = search needs
 write-blob-requires : tie.Need-write-blob-requires
 write-blob-requires c κs =
     let start = c .before .before .before .before .before .before .before .before .before .before .before in
-    let blob = kind-blob (start .args .kind) _ (c .before .before .before .kind-of .ensures) (c .before .enum-told5 .given .1) in
+    let blob = kind-blob (start .args .kind) _ (c .before .before .before .kind-of .ensures) (c .before .enum-told4 .given .1) in
     blob-room (start .args .area .now) (start .args .id) (start .args .kind) (start .args .aggregate) (start .args .bits) (start .args .length) (start .pre .0) (start .args .out .now) (start .pre .1) (c .before .before .before .before .before .before .before .header .result) (c .before .before .before .before .before .before .before .header .ensures) (c .before .before .before .before .before .before .write-u64 .last .0) (c .before .before .before .before .before .before .write-u64 .ensures) (omega (arith, blob .0))
 
-add-result-3 : tie.Need-add-result-3
-add-result-3 c =
+add-result-2 : tie.Need-add-result-2
+add-result-2 c =
     let start = c .before .before .before .before .before .before .before .before .before .before .before .before .before .before in
-    let blob = kind-blob (start .args .kind) _ (c .before .before .before .before .before .before .kind-of .ensures) (c .before .before .before .before .enum-told5 .given .1) in
+    let blob = kind-blob (start .args .kind) _ (c .before .before .before .before .before .before .kind-of .ensures) (c .before .before .before .before .enum-told4 .given .1) in
     omega (arith, value-puts (start .args .area .now) (start .args .id) (start .args .kind) (start .args .aggregate) (start .args .bits) (start .args .length) (start .pre .0) (start .args .out .now) (start .pre .1) (c .before .before .before .before .before .before .before .before .before .before .header .result) (c .before .before .before .before .before .before .before .before .before .before .header .ensures) (c .before .before .before .before .before .before .before .before .before .write-u64 .last .0) (c .before .before .before .before .before .before .before .before .before .write-u64 .ensures) (omega (arith, blob .0)) (c .before .before .write-blob .last .1 .1 .1 .0) (c .before .before .write-blob .result) (c .before .before .write-blob .ensures) .0, start .pre .1, start .good)
 
 same-length : tie.Need-same-length
@@ -120,8 +98,8 @@ same-length-3 c = search needs
 returns-3 : tie.Need-returns-3
 returns-3 c =
     let start = c .before .before .before .before .before .before .before .before .before .before .before .before .before .before in
-    let word = kind-word (start .args .kind) _ (c .before .before .before .before .before .before .kind-of .ensures) (c .before .before .before .before .enum-told3 .given .1) in
-    scalar-puts (start .args .area .now) (start .args .id) (start .args .kind) (start .args .aggregate) (start .args .bits) (start .args .length) (start .pre .0) (start .args .out .now) (start .pre .1) (c .before .before .before .before .before .before .before .before .before .before .header .result) (c .before .before .before .before .before .before .before .before .before .before .header .ensures) (c .before .before .before .before .before .before .before .before .before .write-u64 .last .0) (c .before .before .before .before .before .before .before .before .before .write-u64 .ensures) (word .0) (omega (arith, word .1)) (c .before .before .write-u642 .last .0) (c .before .before .write-u642 .ensures)
+    let scalar = kind-scalar (start .args .kind) _ (c .before .before .before .before .before .before .kind-of .ensures) (c .before .before .before .before .enum-told3 .given .1) in
+    scalar-puts (start .args .area .now) (start .args .id) (start .args .kind) (start .args .aggregate) (start .args .bits) (start .args .length) (start .pre .0) (start .args .out .now) (start .pre .1) (c .before .before .before .before .before .before .before .before .before .before .header .result) (c .before .before .before .before .before .before .before .before .before .before .header .ensures) (c .before .before .before .before .before .before .before .before .before .write-u64 .last .0) (c .before .before .before .before .before .before .before .before .before .write-u64 .ensures) (scalar .0) (omega (arith, scalar .1)) (c .before .before .write-u642 .last .0) (c .before .before .write-u642 .ensures)
 
 same-length-4 : tie.Need-same-length-4
 same-length-4 c = search needs
@@ -129,16 +107,7 @@ same-length-4 c = search needs
 returns-4 : tie.Need-returns-4
 returns-4 c =
     let start = c .before .before .before .before .before .before .before .before .before .before .before .before .before .before in
-    let boolean = kind-boolean (start .args .kind) _ (c .before .before .before .before .before .before .kind-of .ensures) (c .before .before .before .before .enum-told4 .given .1) in
-    scalar-puts (start .args .area .now) (start .args .id) (start .args .kind) (start .args .aggregate) (start .args .bits) (start .args .length) (start .pre .0) (start .args .out .now) (start .pre .1) (c .before .before .before .before .before .before .before .before .before .before .header .result) (c .before .before .before .before .before .before .before .before .before .before .header .ensures) (c .before .before .before .before .before .before .before .before .before .write-u64 .last .0) (c .before .before .before .before .before .before .before .before .before .write-u64 .ensures) (omega (arith, boolean)) (omega (arith, boolean)) (c .before .before .write-u643 .last .0) (c .before .before .write-u643 .ensures)
-
-same-length-5 : tie.Need-same-length-5
-same-length-5 c = search needs
-
-returns-5 : tie.Need-returns-5
-returns-5 c =
-    let start = c .before .before .before .before .before .before .before .before .before .before .before .before .before .before in
-    let blob = kind-blob (start .args .kind) _ (c .before .before .before .before .before .before .kind-of .ensures) (c .before .before .before .before .enum-told5 .given .1) in
+    let blob = kind-blob (start .args .kind) _ (c .before .before .before .before .before .before .kind-of .ensures) (c .before .before .before .before .enum-told4 .given .1) in
     value-puts (start .args .area .now) (start .args .id) (start .args .kind) (start .args .aggregate) (start .args .bits) (start .args .length) (start .pre .0) (start .args .out .now) (start .pre .1) (c .before .before .before .before .before .before .before .before .before .before .header .result) (c .before .before .before .before .before .before .before .before .before .before .header .ensures) (c .before .before .before .before .before .before .before .before .before .write-u64 .last .0) (c .before .before .before .before .before .before .before .before .before .write-u64 .ensures) (omega (arith, blob .0)) (c .before .before .write-blob .last .1 .1 .1 .0) (c .before .before .write-blob .result) (c .before .before .write-blob .ensures)
 
 pub write-value-spec : {M : Type 1} → statement M
@@ -157,17 +126,11 @@ write-value-spec =
     write-u64-requires-2
     add-result
     enum-told-4
-    sub-write-u64-2
-    part-write-u64-start-2
-    part-write-u64-end-2
-    write-u64-requires-3
-    add-result-2
-    enum-told-5
     sub-write-blob
     part-write-blob-start
     part-write-blob-end
     write-blob-requires
-    add-result-3
+    add-result-2
     same-length
     returns
     same-length-2
@@ -175,6 +138,4 @@ write-value-spec =
     same-length-3
     returns-3
     same-length-4
-    returns-4
-    same-length-5
-    returns-5)
+    returns-4)
