@@ -37,7 +37,8 @@ int main(int count, char **words) {
     while (at < n) {
         cablefinch_outcome o;
         uint64_t index, found;
-        cablefinch_decode_with(&o, input + at, n - at, MOST, PARTS, parts, PARTS * CABLEFINCH_PART_WORDS);
+        cablefinch_decode_with(&o, CABLEFINCH_ARCHIVE, input + at, n - at, MOST, PARTS, parts,
+                PARTS * CABLEFINCH_PART_WORDS);
         if (o.kind == CABLEFINCH_MORE) {
             printf("more %zu\n", at);
             return 0;

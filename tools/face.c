@@ -21,7 +21,7 @@ int main(void) {
     uint64_t parts[3 * CABLEFINCH_PART_WORDS] = {0, CABLEFINCH_NULL, 0, 4, 0, 0, 2, 3, 0};
     const uint8_t input[5] = {1, 2, 3, 4, 5};
 
-    expect("version", cablefinch_face_3() == CABLEFINCH_FACE);
+    expect("version", cablefinch_face_4() == CABLEFINCH_FACE);
     expect("checksum", cablefinch_checksum(NULL, 0) == 0);
     expect("update", cablefinch_update(7, NULL, 0) == 7);
     expect("finish", cablefinch_finish(0) == 0);
@@ -45,16 +45,22 @@ int main(void) {
     cablefinch_guid_halves(&o, NULL, 0);
     IS(guid_halves, CABLEFINCH_ACCEPTED, 0);
     expect("guid_is_null", cablefinch_guid_is_null(NULL, 0));
-    cablefinch_decode_with(&o, NULL, 0, 100, 1, NULL, 0);
+    cablefinch_decode_with(&o, CABLEFINCH_LIVE, NULL, 0, 100, 1, NULL, 0);
     IS(decode_with, CABLEFINCH_MORE, 0);
-    cablefinch_decode(&o, NULL, 0, 100, NULL, 0);
+    cablefinch_decode(&o, CABLEFINCH_LIVE, NULL, 0, 100, NULL, 0);
     IS(decode, CABLEFINCH_MORE, 0);
-    cablefinch_encode(&o, CABLEFINCH_ACK, 0, NULL, 0, NULL, 0, NULL, 0, NULL, 0);
+    cablefinch_encode(&o, CABLEFINCH_LIVE, CABLEFINCH_ACK, 0, NULL, 0, NULL, 0, NULL, 0, NULL, 0);
     IS(encode, CABLEFINCH_REFUSED, CABLEFINCH_NO_ROOM);
-    cablefinch_encoded_size(&o, CABLEFINCH_ACK, NULL, 0, NULL, 0);
+    cablefinch_encoded_size(&o, CABLEFINCH_LIVE, CABLEFINCH_ACK, NULL, 0, NULL, 0);
     IS(encoded_size, CABLEFINCH_ACCEPTED, 0);
-    cablefinch_validate(&o, NULL, 0, NULL, 0);
+    cablefinch_validate(&o, CABLEFINCH_LIVE, CABLEFINCH_ACK, NULL, 0, NULL, 0);
     IS(validate, CABLEFINCH_ACCEPTED, 0);
+    cablefinch_validate(&o, CABLEFINCH_LIVE, CABLEFINCH_SSL_ACK, NULL, 0, NULL, 0);
+    IS(validate of a retired type, CABLEFINCH_REFUSED, CABLEFINCH_RETIRED_TYPE);
+    cablefinch_validate(&o, UINT64_MAX, CABLEFINCH_SSL_ACK, NULL, 0, NULL, 0);
+    IS(any number but 0 is live, CABLEFINCH_REFUSED, CABLEFINCH_RETIRED_TYPE);
+    cablefinch_validate(&o, CABLEFINCH_ARCHIVE, CABLEFINCH_SSL_ACK, NULL, 0, NULL, 0);
+    IS(validate in archive mode, CABLEFINCH_ACCEPTED, 0);
     cablefinch_part(&o, NULL, 0, NULL, 0, 0);
     IS(part, CABLEFINCH_ACCEPTED, 0);
     expect("part_checksum", cablefinch_part_checksum(NULL, 0, NULL, 0, 0) == 0);

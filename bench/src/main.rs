@@ -20,6 +20,8 @@ use std::io::Write;
 
 const ROUNDS: usize = 9;
 const LIMIT: u64 = 1 << 40;
+/// The mode in which the port does what the Rust does.
+const ARCHIVE: u64 = 0;
 /// The words of a part in a table.
 const PART: usize = 3;
 
@@ -296,11 +298,11 @@ fn stream(table: &mut Table) {
         };
         let port = || {
             through_slices(Box::new(|rest| {
-                let outcome = black_box(face::decode(rest, LIMIT, &mut []));
+                let outcome = black_box(face::decode(ARCHIVE, rest, LIMIT, &mut []));
                 outcome.count as usize
             }))
         };
-        let mut decoder = packets_of_crate::Decoder::new();
+        let mut decoder = packets_of_crate::Decoder::archive();
         let mut wrapped = || {
             through_slices(Box::new(|rest| {
                 let decoded = black_box(decoder.decode(rest, LIMIT).unwrap().unwrap());
@@ -375,9 +377,9 @@ fn decoded(
     let sample = make();
     table.line(name, sample.wire.len(), bar, || {
         let mut parts = vec![0u64; PART * sample.packet.parts.len()];
-        let outcome = face::decode(&sample.wire, LIMIT, &mut parts);
+        let outcome = face::decode(ARCHIVE, &sample.wire, LIMIT, &mut parts);
         assert!(outcome.kind == face::ACCEPTED && outcome.count as usize == sample.wire.len());
-        let mut decoder = packets_of_crate::Decoder::new();
+        let mut decoder = packets_of_crate::Decoder::archive();
         let mut wrapped = || {
             decoder
                 .decode(&sample.wire, LIMIT)
@@ -397,7 +399,7 @@ fn decoded(
             port: time(
                 batch,
                 || (),
-                |()| face::decode(&sample.wire, LIMIT, &mut parts),
+                |()| face::decode(ARCHIVE, &sample.wire, LIMIT, &mut parts),
             ),
             wrapped: time(batch, || (), |()| wrapped()),
         }
@@ -417,7 +419,7 @@ fn encoded(
         let mut out = vec![0u8; sample.wire.len()];
         let mut buffer = BytesMut::with_capacity(sample.wire.len());
         let id = sample.packet.id.0;
-        let outcome = face::encode(kind, 0, &id, &sample.area, &sample.parts, &mut out);
+        let outcome = face::encode(ARCHIVE, kind, 0, &id, &sample.area, &sample.parts, &mut out);
         assert!(outcome.kind == face::ACCEPTED && out == sample.wire);
         let parts: Vec<_> = sample
             .packet
@@ -435,7 +437,7 @@ fn encoded(
             id: cablefinch::Guid(id),
             parts: parts.into(),
         };
-        let mut encoder = packets_of_crate::Encoder::new();
+        let mut encoder = packets_of_crate::Encoder::archive();
         let mut wrapped = || encoder.encode(black_box(&packet)).unwrap().len();
         assert!(wrapped() == sample.wire.len());
         Times {
@@ -450,7 +452,7 @@ fn encoded(
             port: time(
                 batch,
                 || (),
-                |()| face::encode(kind, 0, &id, &sample.area, &sample.parts, &mut out),
+                |()| face::encode(ARCHIVE, kind, 0, &id, &sample.area, &sample.parts, &mut out),
             ),
             wrapped: time(batch, || (), |()| wrapped()),
         }

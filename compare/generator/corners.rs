@@ -2,7 +2,7 @@
 //! found missing once. They stand beside `edges`, from which the stored sample of `replay` is chosen.
 
 use crate::edges::{ID, NO_ID, header, rowset, word};
-use crate::packets::{Wire, id_of, part_table};
+use crate::packets::{SIGNATURE, Wire, id_of, part_table};
 use crate::rowsets::NULL;
 use crate::sums;
 use crate::text::{hex, words};
@@ -12,6 +12,7 @@ pub fn list() -> Vec<String> {
     booleans(&mut lines);
     ceilings(&mut lines);
     writer_types(&mut lines);
+    live(&mut lines);
     guid_rooms(&mut lines);
     nulls(&mut lines);
     registers(&mut lines);
@@ -97,6 +98,45 @@ fn writer_types(lines: &mut Vec<String>) {
             lines.push(format!("typed-write {kind} 40 0102 {table}"));
             lines.push(format!("typed-size {kind} 0102 {table}"));
         }
+    }
+}
+
+/// Type 2 in both modes, with what stands before 24 in its order and behind it: a length under 36, a
+/// wrong signature, types 258 and 514, a wrong checksum, too many parts, a byte limit; and in writing
+/// each rule of 18, 4 and a short room.
+fn live(lines: &mut Vec<String>) {
+    for mode in ["", "-live"] {
+        for kind in [0, 1, 2, 3, 258, 514] {
+            for signature in [SIGNATURE, SIGNATURE ^ 1] {
+                for count in [0, 1, 65_537] {
+                    for spoiled in [0, 1] {
+                        let parts = vec![Some(vec![7; 3]); usize::from(count == 1)];
+                        let mut wire = Wire::new(kind, 0, id_of([1, 2, 3, 4]), &parts);
+                        wire.signature = signature;
+                        wire.count = count;
+                        let bytes = wire.bytes(|sum| sum ^ spoiled);
+                        for length in [5, 6, 35, 36, bytes.len()] {
+                            let bytes = hex(&bytes[..length]);
+                            lines.push(format!("packet{mode} 100 9 1 {bytes}"));
+                            lines.push(format!("packet-default{mode} 40 0 {bytes}"));
+                        }
+                    }
+                }
+            }
+        }
+        for kind in 0..3 {
+            for table in ["-", "0,1,1,1", "0", "5,1"] {
+                lines.push(format!("packet-size{mode} {kind} 0 {NO_ID} 0102 {table}"));
+                lines.push(format!("validate{mode} {kind} 0 {NO_ID} 0102 {table}"));
+                for room in [0, 1000] {
+                    lines.push(format!(
+                        "packet-write{mode} {kind} 0 {NO_ID} {room} 0102 {table}"
+                    ));
+                }
+            }
+        }
+        let large = (1 << 30) + 1;
+        lines.push(format!("validate{mode} 2 0 {NO_ID} z{large} 0,{large}"));
     }
 }
 

@@ -24,7 +24,7 @@ use text::{hex, hex_or_dash};
 type Make = fn(&mut Random) -> String;
 
 /// Each kind with its share of a run.
-const KINDS: [(&str, u64, Make); 21] = [
+const KINDS: [(&str, u64, Make); 26] = [
     ("crc", 30, crc),
     ("checksum", 20, checksum),
     ("fold", 10, sums::fold),
@@ -38,6 +38,11 @@ const KINDS: [(&str, u64, Make); 21] = [
     ("packet-write", 90, packets::write),
     ("packet-size", 30, packets::size),
     ("validate", 25, packets::validate),
+    ("packet-live", 80, packets::read_live),
+    ("packet-default-live", 20, packets::read_default_live),
+    ("packet-write-live", 30, packets::write_live),
+    ("packet-size-live", 15, packets::size_live),
+    ("validate-live", 15, packets::validate_live),
     ("part", 45, packets::part),
     ("contains", 10, contains),
     ("rowset", 140, rowsets::read),

@@ -103,7 +103,7 @@ fn change(random: &mut Random, wire: &mut Wire) {
         1 => {
             wire.signature = *random.pick(&[0, 1, SIGNATURE.swap_bytes(), SIGNATURE + 1, u32::MAX])
         }
-        2 => wire.kind = *random.pick(&[3, 4, 255, 256, 257, 0x8000, 0xffff]),
+        2 => wire.kind = *random.pick(&[3, 4, 255, 256, 257, 258, 514, 0x8000, 0xffff]),
         3 => wire.kind ^= 1 << random.below(16),
         4 => {
             wire.count = *random.pick(&[
@@ -265,6 +265,20 @@ pub fn read_default(random: &mut Random) -> String {
     let limit = limit(random, bytes.len() as u64, count);
     let room = room(random, count);
     format!("packet-default {limit} {room} {}", hex_or_dash(&bytes))
+}
+
+/// The case in live mode.
+fn live(case: String) -> String {
+    let (kind, words) = case.split_once(' ').unwrap_or((&case, ""));
+    format!("{kind}-live {words}")
+}
+
+pub fn read_live(random: &mut Random) -> String {
+    live(read(random))
+}
+
+pub fn read_default_live(random: &mut Random) -> String {
+    live(read_default(random))
 }
 
 // Writing.
@@ -443,6 +457,18 @@ pub fn validate(random: &mut Random) -> String {
         table.area,
         words(&table.words)
     )
+}
+
+pub fn write_live(random: &mut Random) -> String {
+    live(write(random))
+}
+
+pub fn size_live(random: &mut Random) -> String {
+    live(size(random))
+}
+
+pub fn validate_live(random: &mut Random) -> String {
+    live(validate(random))
 }
 
 pub fn part(random: &mut Random) -> String {

@@ -13,10 +13,10 @@ extern "C" {
 
 /* The version of this interface. The function's name carries it, and every file that includes this header refers to the
  * function: an archive of another version does not link. */
-#define CABLEFINCH_FACE 3
-uint64_t cablefinch_face_3(void);
+#define CABLEFINCH_FACE 4
+uint64_t cablefinch_face_4(void);
 #if defined(__GNUC__)
-static uint64_t (*const cablefinch_face_linked)(void) __attribute__((used)) = cablefinch_face_3;
+static uint64_t (*const cablefinch_face_linked)(void) __attribute__((used)) = cablefinch_face_4;
 #endif
 
 /* Answers. */
@@ -53,7 +53,8 @@ enum {
     CABLEFINCH_TRAILING_BYTES = 15,           /* how many bytes follow the last row */
     CABLEFINCH_BAD_GUID = 16,                 /* where the text goes wrong, why (below) */
     CABLEFINCH_NO_ROOM = 17,                  /* which table (below), how much is needed, how much was given */
-    CABLEFINCH_BAD_TABLE = 18                 /* which rule (below), where */
+    CABLEFINCH_BAD_TABLE = 18,                /* which rule (below), where */
+    CABLEFINCH_RETIRED_TYPE = 24              /* the type found; in live mode alone */
 };
 
 /* The second value of CABLEFINCH_BAD_GUID. The first is the first byte at which no GUID's text could go on so, counted
@@ -93,6 +94,11 @@ enum {
 #define CABLEFINCH_GUID_TEXT_BYTES 35 /* the longest text of a GUID */
 
 enum { CABLEFINCH_MESSAGE = 0, CABLEFINCH_ACK = 1, CABLEFINCH_SSL_ACK = 2 };
+
+/* The mode of the functions that read and write packets; any number but 0 is live. In live mode CABLEFINCH_SSL_ACK is
+ * refused with CABLEFINCH_RETIRED_TYPE: no live peer may send it. In archive mode every type is read and written. A
+ * service on a live socket passes CABLEFINCH_LIVE. */
+enum { CABLEFINCH_ARCHIVE = 0, CABLEFINCH_LIVE = 1 };
 
 enum {
     CABLEFINCH_VALUE_NULL = 2,
@@ -152,22 +158,22 @@ bool cablefinch_guid_is_null(const uint8_t *id, size_t n);
  * CABLEFINCH_PART_CHECKSUM the bytes of the headers and of the parts up to and including the damaged one, which is
  * no place to read on from; else 0. values: type, flags, the id's four words, how many parts. At most
  * max_message_size bytes and max_part_count parts are taken. */
-cablefinch_outcome *cablefinch_decode_with(cablefinch_outcome *o, const uint8_t *input, size_t n,
+cablefinch_outcome *cablefinch_decode_with(cablefinch_outcome *o, uint64_t mode, const uint8_t *input, size_t n,
         uint64_t max_message_size, uint32_t max_part_count, uint64_t *parts, size_t words);
 /* The same with at most CABLEFINCH_DEFAULT_MAX_PART_COUNT parts. */
-cablefinch_outcome *cablefinch_decode(cablefinch_outcome *o, const uint8_t *input, size_t n,
+cablefinch_outcome *cablefinch_decode(cablefinch_outcome *o, uint64_t mode, const uint8_t *input, size_t n,
         uint64_t max_message_size, uint64_t *parts, size_t words);
 /* Writes a packet whose parts are stretches of the area; count: its bytes. A type above CABLEFINCH_SSL_ACK is
  * refused with CABLEFINCH_UNKNOWN_TYPE before any other check. */
-cablefinch_outcome *cablefinch_encode(cablefinch_outcome *o, uint64_t type, uint16_t flags, const uint8_t *id,
-        size_t id_size, const uint8_t *area, size_t n, const uint64_t *parts, size_t words, uint8_t *out,
-        size_t room);
+cablefinch_outcome *cablefinch_encode(cablefinch_outcome *o, uint64_t mode, uint64_t type, uint16_t flags,
+        const uint8_t *id, size_t id_size, const uint8_t *area, size_t n, const uint64_t *parts, size_t words,
+        uint8_t *out, size_t room);
 /* count: how many bytes cablefinch_encode would write, however much room there is. */
-cablefinch_outcome *cablefinch_encoded_size(cablefinch_outcome *o, uint64_t type, const uint8_t *area, size_t n,
-        const uint64_t *parts, size_t words);
-/* Whether the parts can be written at all. */
-cablefinch_outcome *cablefinch_validate(cablefinch_outcome *o, const uint8_t *area, size_t n,
-        const uint64_t *parts, size_t words);
+cablefinch_outcome *cablefinch_encoded_size(cablefinch_outcome *o, uint64_t mode, uint64_t type, const uint8_t *area,
+        size_t n, const uint64_t *parts, size_t words);
+/* Whether a packet of these parts can be written at all. A type above CABLEFINCH_SSL_ACK is refused as there. */
+cablefinch_outcome *cablefinch_validate(cablefinch_outcome *o, uint64_t mode, uint64_t type, const uint8_t *area,
+        size_t n, const uint64_t *parts, size_t words);
 /* values: where part `index` begins and how long it is. An empty part, a null part, and an index or an entry that
  * lies outside are all answered 0 and 0; cablefinch_part_state, below, tells them apart. */
 cablefinch_outcome *cablefinch_part(cablefinch_outcome *o, const uint8_t *input, size_t n,

@@ -28,7 +28,7 @@ fn run() -> Result<(), Box<dyn Error>> {
         None => Box::new(io::stdin().lock()),
     };
     let mut output = io::stdout().lock();
-    let mut packets = packet::Decoder::new();
+    let mut packets = packet::Decoder::archive();
     let mut rowsets = wire::Decoder::new();
     let mut buffer = Vec::new();
     let mut chunk = vec![0; 1 << 16];

@@ -20,9 +20,10 @@
 //! let parts = [None, Some(&rowset[..])];
 //! let id = Guid::from_parts([1, 2, 3, 4]);
 //! let sent = packet::Packet::message(id, &parts, packet::PacketFlags::NONE);
-//! packet::encode(&sent, &mut buffer)?;
+//! packet::encode(packet::Mode::Live, &sent, &mut buffer)?;
 //!
-//! let decoded = packet::decode(&buffer, 1 << 20)?.expect("a whole packet is there");
+//! let decoded =
+//!     packet::decode(packet::Mode::Live, &buffer, 1 << 20)?.expect("a whole packet is there");
 //! assert_eq!(decoded.packet.id.to_string(), "4-3-2-1");
 //! assert_eq!(decoded.packet.parts.get(0), Some(None));
 //! let Some(Some(part)) = decoded.packet.parts.get(1) else {

@@ -85,6 +85,18 @@ const ENTRY: usize = WIDTH * size_of::<u64>();
 /// A part: its bytes, or `None` where it is null.
 pub type Part<'a> = Option<&'a [u8]>;
 
+/// Whom a packet comes from or goes to. There is no default: a service on a live socket wants
+/// [`Mode::Live`], a program that reads what was stored [`Mode::Archive`].
+#[derive(Debug, Clone, Copy, PartialEq, Eq, Hash)]
+#[repr(u64)]
+pub enum Mode {
+    /// An archive: every type is read and written, as by the original.
+    Archive = 0,
+    /// A live peer: [`PacketType::SslAck`] is refused, [`PacketError::RetiredType`], since encryption
+    /// ends at the gateway.
+    Live = 1,
+}
+
 /// Whether a part that was read came with a checksum.
 #[derive(Debug, Clone, Copy, PartialEq, Eq, Hash)]
 pub enum Guard {
@@ -103,7 +115,7 @@ pub enum PacketType {
     Message = 0,
     /// The acknowledgement of a message.
     Ack = 1,
-    /// The acknowledgement of a handshake.
+    /// The acknowledgement of a handshake. Retired: no live peer may send it.
     SslAck = 2,
 }
 
@@ -340,6 +352,8 @@ pub enum PacketError {
         /// How many bytes were wanted.
         size: usize,
     },
+    /// No live peer may send this type: in [`Mode::Live`] alone.
+    RetiredType(u16),
     /// A number that packets are not refused by: it does not arise.
     Other(u64),
 }
@@ -357,6 +371,7 @@ impl PacketError {
             Self::PartChecksum { .. } => 7,
             Self::MessageTooLarge { .. } => 8,
             Self::NoRoom { .. } => 17,
+            Self::RetiredType(_) => 24,
             Self::Other(number) => *number as u32,
         }
     }
@@ -386,6 +401,7 @@ impl PacketError {
             },
             8 => Self::MessageTooLarge { size: a, limit: b },
             17 => Self::no_room(count(b), if a == 4 { 1 } else { ENTRY }),
+            24 => Self::RetiredType(a as u16),
             number => Self::Other(number),
         }
     }
@@ -444,6 +460,7 @@ impl fmt::Display for PacketError {
             Self::NoRoom { size } => {
                 write!(formatter, "could not reserve {size} bytes for a packet")
             }
+            Self::RetiredType(number) => write!(formatter, "retired packet type {number}"),
             Self::Other(number) => write!(formatter, "packet refused by number {number}"),
         }
     }

@@ -31,7 +31,7 @@ pub(crate) const MORE: u64 = 1;
 mod raw {
     use super::Outcome;
     unsafe extern "C" {
-        pub(super) fn cablefinch_face_3() -> u64;
+        pub(super) fn cablefinch_face_4() -> u64;
         pub(super) fn cablefinch_checksum(bytes: *const u8, n: usize) -> u64;
         pub(super) fn cablefinch_update(register: u64, bytes: *const u8, n: usize) -> u64;
         pub(super) fn cablefinch_finish(register: u64) -> u64;
@@ -45,10 +45,10 @@ mod raw {
         pub(super) fn cablefinch_guid_parts(o: *mut Outcome, id: *const u8, n: usize) -> *mut Outcome;
         pub(super) fn cablefinch_guid_halves(o: *mut Outcome, id: *const u8, n: usize) -> *mut Outcome;
         pub(super) fn cablefinch_guid_is_null(id: *const u8, n: usize) -> bool;
-        pub(super) fn cablefinch_decode_with(o: *mut Outcome, input: *const u8, n: usize, max_message_size: u64, max_part_count: u32, parts: *mut u64, words: usize) -> *mut Outcome;
-        pub(super) fn cablefinch_encode(o: *mut Outcome, kind: u64, flags: u16, id: *const u8, id_size: usize, area: *const u8, n: usize, parts: *const u64, words: usize, out: *mut u8, room: usize) -> *mut Outcome;
-        pub(super) fn cablefinch_encoded_size(o: *mut Outcome, kind: u64, area: *const u8, n: usize, parts: *const u64, words: usize) -> *mut Outcome;
-        pub(super) fn cablefinch_validate(o: *mut Outcome, area: *const u8, n: usize, parts: *const u64, words: usize) -> *mut Outcome;
+        pub(super) fn cablefinch_decode_with(o: *mut Outcome, mode: u64, input: *const u8, n: usize, max_message_size: u64, max_part_count: u32, parts: *mut u64, words: usize) -> *mut Outcome;
+        pub(super) fn cablefinch_encode(o: *mut Outcome, mode: u64, kind: u64, flags: u16, id: *const u8, id_size: usize, area: *const u8, n: usize, parts: *const u64, words: usize, out: *mut u8, room: usize) -> *mut Outcome;
+        pub(super) fn cablefinch_encoded_size(o: *mut Outcome, mode: u64, kind: u64, area: *const u8, n: usize, parts: *const u64, words: usize) -> *mut Outcome;
+        pub(super) fn cablefinch_validate(o: *mut Outcome, mode: u64, kind: u64, area: *const u8, n: usize, parts: *const u64, words: usize) -> *mut Outcome;
         pub(super) fn cablefinch_contains(flags: u16, other: u16) -> bool;
         pub(super) fn cablefinch_decode_rowset(o: *mut Outcome, input: *const u8, n: usize, rows: *mut u64, row_words: usize, values: *mut u64, value_words: usize) -> *mut Outcome;
         pub(super) fn cablefinch_encode_rowset(o: *mut Outcome, area: *const u8, n: usize, rows: *const u64, row_words: usize, values: *const u64, value_words: usize, out: *mut u8, room: usize) -> *mut Outcome;
@@ -85,7 +85,7 @@ macro_rules! ask {
 /// Named by every program over this crate, called by none: an archive of another version of the
 /// interface lacks the function, so that the program does not link.
 #[used]
-static VERSION: unsafe extern "C" fn() -> u64 = raw::cablefinch_face_3;
+static VERSION: unsafe extern "C" fn() -> u64 = raw::cablefinch_face_4;
 
 pub(crate) fn checksum(bytes: &[u8]) -> u64 {
     // SAFETY: a slice's pointer and length, only read.
@@ -147,11 +147,18 @@ pub(crate) fn guid_is_null(id: &[u8]) -> bool {
     unsafe { raw::cablefinch_guid_is_null(id.as_ptr(), id.len()) }
 }
 
-pub(crate) fn decode_with(input: &[u8], limit: u64, ceiling: u32, parts: &mut [u64]) -> Outcome {
-    ask!(cablefinch_decode_with [input] limit ceiling [mut parts])
+pub(crate) fn decode_with(
+    mode: u64,
+    input: &[u8],
+    limit: u64,
+    ceiling: u32,
+    parts: &mut [u64],
+) -> Outcome {
+    ask!(cablefinch_decode_with mode [input] limit ceiling [mut parts])
 }
 
 pub(crate) fn encode(
+    mode: u64,
     kind: u64,
     flags: u16,
     id: &[u8],
@@ -159,15 +166,15 @@ pub(crate) fn encode(
     parts: &[u64],
     out: &mut [u8],
 ) -> Outcome {
-    ask!(cablefinch_encode kind flags [id] [area] [parts] [mut out])
+    ask!(cablefinch_encode mode kind flags [id] [area] [parts] [mut out])
 }
 
-pub(crate) fn encoded_size(kind: u64, area: &[u8], parts: &[u64]) -> Outcome {
-    ask!(cablefinch_encoded_size kind [area] [parts])
+pub(crate) fn encoded_size(mode: u64, kind: u64, area: &[u8], parts: &[u64]) -> Outcome {
+    ask!(cablefinch_encoded_size mode kind [area] [parts])
 }
 
-pub(crate) fn validate(area: &[u8], parts: &[u64]) -> Outcome {
-    ask!(cablefinch_validate[area][parts])
+pub(crate) fn validate(mode: u64, kind: u64, area: &[u8], parts: &[u64]) -> Outcome {
+    ask!(cablefinch_validate mode kind [area] [parts])
 }
 
 pub(crate) fn contains(flags: u16, other: u16) -> bool {

@@ -8,7 +8,7 @@
 //! values (`value`); and lines that are no case, or to which the original has no answer, or one that is
 //! excepted. Of some answers the original has only the beginning, `refused 16 ..`.
 
-use cablefinch::packet::{self, Packet, PacketError, PacketFlags, PacketType, Part};
+use cablefinch::packet::{self, Guard, Mode, Packet, PacketError, PacketFlags, PacketType, Part};
 use cablefinch::wire::{self, Rowset, UnversionedValue, Value, WireError};
 use cablefinch::{Crc64, Guid, checksum};
 use std::collections::BTreeMap;
@@ -19,7 +19,7 @@ const CASES: &str = include_str!("../../crates/replay/stdin");
 const ANSWERS: &str = include_str!("../../crates/replay/stdout");
 const NULL: u64 = u64::MAX;
 /// The words of a part and of a value in the tables of a case.
-const PART: usize = 2;
+const PART: usize = 3;
 const VALUE: usize = 5;
 
 #[test]
@@ -78,9 +78,20 @@ fn enormous(case: &str) -> bool {
     case.starts_with("packet-write ") && table.starts_with('z')
 }
 
+/// The mode that a case is in, by the end of its kind, and its words without that.
+fn mode_and_words(case: &str) -> (Mode, Vec<&str>) {
+    let mut words: Vec<&str> = case.split(' ').collect();
+    let mut mode = Mode::Archive;
+    if let Some(kind) = words[0].strip_suffix("-live") {
+        words[0] = kind;
+        mode = Mode::Live;
+    }
+    (mode, words)
+}
+
 /// The crate's answer, or none where the case is left aside.
 fn answer(case: &str, expected: &str) -> Option<String> {
-    let words: Vec<&str> = case.split(' ').collect();
+    let (mode, words) = mode_and_words(case);
     Some(match words[..] {
         ["crc", ref stretches @ ..] => {
             let sum = stretches
@@ -111,19 +122,19 @@ fn answer(case: &str, expected: &str) -> Option<String> {
         ["packet", limit, ceiling, _, input] => {
             let input = bytes(input);
             let ceiling = number(ceiling) as u32;
-            let read = packet::decode_with(&input, number(limit), ceiling);
+            let read = packet::decode_with(mode, &input, number(limit), ceiling);
             return packet_read(read, &input, expected);
         }
         ["packet-default", limit, _, input] => {
             let input = bytes(input);
-            let read = packet::decode(&input, number(limit));
+            let read = packet::decode(mode, &input, number(limit));
             return packet_read(read, &input, expected);
         }
         ["packet-write", kind, flags, id, _, area, table] => {
             let area = bytes(area);
             let packet = made_packet(kind, flags, id, &area, table)?;
             let mut out = Vec::new();
-            match packet::encode(&packet, &mut out) {
+            match packet::encode(mode, &packet, &mut out) {
                 Ok(()) if short(expected, out.len()) => return None,
                 Ok(()) => format!("ok {} {}", out.len(), hex(&out)),
                 Err(error) => refused_packet(&error, None),
@@ -131,14 +142,14 @@ fn answer(case: &str, expected: &str) -> Option<String> {
         }
         ["packet-size", kind, flags, id, area, table] => {
             let area = bytes(area);
-            match packet::encoded_size(&made_packet(kind, flags, id, &area, table)?) {
+            match packet::encoded_size(mode, &made_packet(kind, flags, id, &area, table)?) {
                 Ok(size) => format!("ok {size}"),
                 Err(error) => refused_packet(&error, None),
             }
         }
         ["validate", kind, flags, id, area, table] => {
             let area = bytes(area);
-            match packet::validate(&made_packet(kind, flags, id, &area, table)?) {
+            match packet::validate(mode, &made_packet(kind, flags, id, &area, table)?) {
                 Ok(()) => "ok".to_string(),
                 Err(error) => refused_packet(&error, None),
             }
@@ -236,7 +247,7 @@ fn made_packet<'a>(
     let parts: Option<Vec<Part<'a>>> = table
         .chunks(PART)
         .map(|entry| match entry {
-            [0, NULL] => Some(None),
+            [0, NULL, _] => Some(None),
             entry => stretch(area, entry[0], entry[1]).map(Some),
         })
         .collect();
@@ -362,13 +373,19 @@ fn packet_read(
         hex(&packet.id.0),
         packet.parts.len()
     );
-    for part in &packet.parts {
-        match part {
-            None => text.push_str(" null"),
-            Some(part) => {
-                let _ = write!(text, " {}+{}", offset(input, part), part.len());
-            }
-        }
+    for (index, part) in packet.parts.iter().enumerate() {
+        let at = 36 + 4 * packet.parts.len() + 8 * index;
+        let word = u64::from_le_bytes(input[at..at + 8].try_into().unwrap());
+        let guard = match (part, word) {
+            (None, _) => None,
+            (Some(_), 0) => Some(Guard::Bare),
+            (Some(_), word) => Some(Guard::Guarded(word)),
+        };
+        assert_eq!(packet.parts.guard(index), guard);
+        let _ = match part {
+            None => write!(text, " null:{word}"),
+            Some(part) => write!(text, " {}+{}:{word}", offset(input, part), part.len()),
+        };
     }
     Some(text)
 }
@@ -387,6 +404,7 @@ fn refused_packet(error: &PacketError, consumed: Option<usize>) -> String {
             actual,
         } => vec![index as u64, expected, actual],
         PacketError::MessageTooLarge { size, limit } => vec![size, limit],
+        PacketError::RetiredType(found) => vec![found.into()],
         other => panic!("{other}"),
     };
     let consumed = consumed.map(|bytes| bytes as u64);

@@ -54,21 +54,21 @@ fn packet<'a>(draw: &mut Draw, parts: &'a [OwnedPart]) -> Packet<'a> {
 #[test]
 fn packets_come_back() {
     let mut draw = Draw(1);
-    let mut decoder = packet::Decoder::new();
+    let mut decoder = packet::Decoder::archive();
     for _ in 0..2000 {
         let parts = parts(&mut draw);
         let sent = packet(&mut draw, &parts);
         let mut bytes = Vec::new();
-        packet::encode(&sent, &mut bytes).unwrap();
+        packet::encode(packet::Mode::Archive, &sent, &mut bytes).unwrap();
         let size = bytes.len();
-        assert_eq!(packet::encoded_size(&sent), Ok(size));
+        assert_eq!(packet::encoded_size(packet::Mode::Archive, &sent), Ok(size));
         let cut = draw.below(size as u64) as usize;
         assert_eq!(decoder.decode(&bytes[..cut], 1 << 20), Ok(None));
         bytes.extend(draw.bytes(50));
         let decoded = decoder.decode(&bytes, 1 << 20).unwrap().unwrap();
         assert_eq!((&decoded.packet, decoded.consumed), (&sent, size));
         let mut again = Vec::new();
-        packet::encode(&decoded.packet, &mut again).unwrap();
+        packet::encode(packet::Mode::Archive, &decoded.packet, &mut again).unwrap();
         assert_eq!(again, bytes[..size]);
     }
 }
@@ -125,14 +125,19 @@ fn value<'a>(draw: &mut Draw, blobs: &'a [Vec<u8>]) -> UnversionedValue<'a> {
 #[test]
 fn any_bytes_have_an_answer() {
     let mut draw = Draw(3);
-    let mut decoder = packet::Decoder::new();
+    let mut decoder = packet::Decoder::archive();
     for _ in 0..20_000 {
         let mut bytes = draw.bytes(120);
         if draw.below(2) == 0 {
             // A packet or a rowset with some bytes changed.
             let parts = parts(&mut draw);
             bytes.clear();
-            packet::encode(&packet(&mut draw, &parts), &mut bytes).unwrap();
+            packet::encode(
+                packet::Mode::Archive,
+                &packet(&mut draw, &parts),
+                &mut bytes,
+            )
+            .unwrap();
             if draw.below(2) == 0 {
                 let value = [UnversionedValue::new(0, Value::String(&bytes))];
                 bytes = wire::encode_rowset(&[None, Some(value)]).unwrap();
@@ -179,10 +184,10 @@ fn one_byte_at_a_time() {
     let sent: Vec<Packet<'_>> = all.iter().map(|parts| packet(&mut draw, parts)).collect();
     let mut stream = Vec::new();
     for packet in &sent {
-        packet::encode(packet, &mut stream).unwrap();
+        packet::encode(packet::Mode::Archive, packet, &mut stream).unwrap();
     }
 
-    let mut decoder = packet::Decoder::new();
+    let mut decoder = packet::Decoder::archive();
     let mut buffer = Vec::new();
     let mut heard = 0;
     for byte in stream {

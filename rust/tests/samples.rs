@@ -1,10 +1,11 @@
 //! The repository's samples: what is read of each is what its text says, in the lines of `list`.
 
+use cablefinch::packet::Guard;
 use cablefinch::{packet, wire};
 use std::fmt::Write as _;
 
 fn listing(input: &[u8]) -> String {
-    let mut decoder = packet::Decoder::new();
+    let mut decoder = packet::Decoder::archive();
     let mut text = String::new();
     let mut offset = 0;
     loop {
@@ -20,9 +21,12 @@ fn listing(input: &[u8]) -> String {
                 let count = packet.parts.len();
                 let _ = writeln!(text, "packet {offset} {kind} {flags} {} {count}", packet.id);
                 for (index, part) in packet.parts.iter().enumerate() {
-                    let _ = match part {
-                        None => writeln!(text, "part {index} null"),
-                        Some(part) => writeln!(text, "part {index} {}", part.len()),
+                    let _ = match (part, packet.parts.guard(index)) {
+                        (None, _) => writeln!(text, "part {index} null"),
+                        (Some(part), Some(Guard::Guarded(_))) => {
+                            writeln!(text, "part {index} {} guarded", part.len())
+                        }
+                        (Some(part), _) => writeln!(text, "part {index} {} bare", part.len()),
                     };
                 }
                 offset += decoded.consumed;
@@ -69,7 +73,9 @@ fn the_parts_of_the_terms_are_plain_rowsets() {
     let mut rowsets = wire::Decoder::new();
     let mut offset = 0;
     let mut nulls = Vec::new();
-    while let Some(decoded) = packet::decode(&input[offset..], 1 << 20).unwrap() {
+    while let Some(decoded) =
+        packet::decode(packet::Mode::Archive, &input[offset..], 1 << 20).unwrap()
+    {
         for part in &decoded.packet.parts {
             let Some(part) = part else { continue };
             assert!(wire::is_plain(part));

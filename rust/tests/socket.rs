@@ -1,7 +1,9 @@
 //! Behind a socket: why a refusal closes the connection, the probe of the headers, the original's
 //! `receive`, packets that are kept, and how much memory a peer can make the crate hold.
 
-use cablefinch::packet::{self, Decoder, Packet, PacketFlags, PacketType, Part, Parts, Ready};
+use cablefinch::packet::{
+    self, Decoder, Mode, Packet, PacketFlags, PacketType, Part, Parts, Ready,
+};
 use cablefinch::wire::{self, UnversionedValue, Value};
 use cablefinch::{Guid, checksum};
 use std::io::{self, Read};
@@ -12,6 +14,7 @@ fn message(first: u32, parts: &[Part<'_>]) -> Vec<u8> {
     let mut out = Vec::new();
     let id = Guid::from_parts([first, 0, 0, 0]);
     packet::encode(
+        Mode::Live,
         &Packet::message(id, parts.to_vec(), PacketFlags::NONE),
         &mut out,
     )
@@ -27,7 +30,10 @@ fn a_part_behind_a_damaged_one_is_no_packet() {
     let honest = stream.len();
     stream.extend(message(2, &[Some(b"the next packet")]));
     assert_eq!(
-        packet::decode(&stream, LIMIT).unwrap().unwrap().consumed,
+        packet::decode(Mode::Live, &stream, LIMIT)
+            .unwrap()
+            .unwrap()
+            .consumed,
         honest
     );
 
@@ -35,12 +41,12 @@ fn a_part_behind_a_damaged_one_is_no_packet() {
     // reader that dropped them and went on would take the forged packet for one of the sender's.
     let header = honest - forged.len() - b"header".len();
     stream[header] ^= 1;
-    let refusal = packet::decode(&stream, LIMIT).unwrap_err();
+    let refusal = packet::decode(Mode::Live, &stream, LIMIT).unwrap_err();
     assert_eq!(
         (refusal.code(), refusal.consumed),
         (7, honest - forged.len())
     );
-    let taken = packet::decode(&stream[refusal.consumed..], LIMIT)
+    let taken = packet::decode(Mode::Live, &stream[refusal.consumed..], LIMIT)
         .unwrap()
         .unwrap();
     assert_eq!(taken.packet.id, Guid::from_parts([0xbad, 0, 0, 0]));
@@ -53,18 +59,18 @@ fn every_other_refusal_consumes_nothing() {
     for (at, code) in [(0, 1), (4, 2), (6, 5), (36, 6)] {
         let mut bytes = whole.clone();
         bytes[at] ^= 0x40;
-        let refusal = packet::decode(&bytes, LIMIT).unwrap_err();
+        let refusal = packet::decode(Mode::Live, &bytes, LIMIT).unwrap_err();
         assert_eq!((refusal.code(), refusal.consumed), (code, 0));
     }
     for (limit, ceiling, code) in [(LIMIT, 0, 3), (60, 1, 8)] {
-        let refusal = packet::decode_with(&whole, limit, ceiling).unwrap_err();
+        let refusal = packet::decode_with(Mode::Live, &whole, limit, ceiling).unwrap_err();
         assert_eq!((refusal.code(), refusal.consumed), (code, 0));
     }
     let mut large = whole;
     large[36..40].copy_from_slice(&((1u32 << 30) + 1).to_le_bytes());
     let sum = checksum(&large[36..48]).to_le_bytes();
     large[48..56].copy_from_slice(&sum);
-    let refusal = packet::decode(&large, LIMIT).unwrap_err();
+    let refusal = packet::decode(Mode::Live, &large, LIMIT).unwrap_err();
     assert_eq!((refusal.code(), refusal.consumed), (4, 0));
 }
 
@@ -79,7 +85,9 @@ struct Connection<R> {
 impl<R: Read> Connection<R> {
     fn receive(&mut self) -> io::Result<Packet<'_>> {
         let size = loop {
-            match packet::ready(&self.buffer[self.done..], LIMIT).map_err(io::Error::other)? {
+            match packet::ready(Mode::Live, &self.buffer[self.done..], LIMIT)
+                .map_err(io::Error::other)?
+            {
                 Ready::Whole(size) => break size,
                 Ready::More(least) => self.read(least)?,
             }
@@ -114,10 +122,13 @@ fn a_connection_receives_packet_by_packet() {
         socket: &stream[..],
         buffer: Vec::new(),
         done: 0,
-        decoder: Decoder::new(),
+        decoder: Decoder::live(),
     };
     for bytes in &sent {
-        let expected = packet::decode(bytes, LIMIT).unwrap().unwrap().packet;
+        let expected = packet::decode(Mode::Live, bytes, LIMIT)
+            .unwrap()
+            .unwrap()
+            .packet;
         assert_eq!(connection.receive().unwrap(), expected);
     }
     // No byte was asked for beyond the packets.
@@ -134,14 +145,14 @@ fn the_probe_says_what_decode_will_say() {
         parts: Parts::default(),
     };
     let mut bare = Vec::new();
-    packet::encode(&ack, &mut bare).unwrap();
+    packet::encode(Mode::Live, &ack, &mut bare).unwrap();
     let mut with_parts = Vec::new();
     let parts = [None, Some(&b"an Ack with parts"[..])];
     let ack = Packet {
         parts: (&parts).into(),
         ..ack
     };
-    packet::encode(&ack, &mut with_parts).unwrap();
+    packet::encode(Mode::Live, &ack, &mut with_parts).unwrap();
     for whole in [
         bare,
         with_parts,
@@ -152,24 +163,30 @@ fn the_probe_says_what_decode_will_say() {
         let size = whole.len();
         for cut in 0..size {
             // Between the bytes that are there and those that are asked for, none makes it whole.
-            let Ok(Ready::More(least)) = packet::ready(&whole[..cut], LIMIT) else {
+            let Ok(Ready::More(least)) = packet::ready(Mode::Live, &whole[..cut], LIMIT) else {
                 panic!("{cut} of {size} bytes");
             };
             assert!(least > 0 && cut + least <= size);
-            assert_eq!(packet::decode(&whole[..cut + least - 1], LIMIT), Ok(None));
+            assert_eq!(
+                packet::decode(Mode::Live, &whole[..cut + least - 1], LIMIT),
+                Ok(None)
+            );
         }
         for tail in [0, 1, 100] {
             let longer = [&whole[..], &vec![0xff; tail]].concat();
-            assert_eq!(packet::ready(&longer, LIMIT), Ok(Ready::Whole(size)));
-            let decoded = packet::decode(&longer, LIMIT).unwrap().unwrap();
+            assert_eq!(
+                packet::ready(Mode::Live, &longer, LIMIT),
+                Ok(Ready::Whole(size))
+            );
+            let decoded = packet::decode(Mode::Live, &longer, LIMIT).unwrap().unwrap();
             assert_eq!(decoded.consumed, size);
         }
         // Damage anywhere in the headers is refused by both alike.
         for at in 0..size {
             let mut damaged = whole.clone();
             damaged[at] ^= 0x10;
-            let decoded = packet::decode(&damaged, LIMIT);
-            match packet::ready(&damaged, LIMIT) {
+            let decoded = packet::decode(Mode::Live, &damaged, LIMIT);
+            match packet::ready(Mode::Live, &damaged, LIMIT) {
                 Ok(Ready::Whole(told)) => assert_eq!(told, size),
                 Ok(Ready::More(_)) => assert_eq!(decoded, Ok(None)),
                 Err(refusal) => assert_eq!(decoded, Err(refusal)),
@@ -178,9 +195,14 @@ fn the_probe_says_what_decode_will_say() {
     }
     // The refusal of a packet that is not there yet in full.
     let large = message(1, &[Some(&[1; 2000])]);
-    assert_eq!(packet::ready(&large[..60], 1000).unwrap_err().code(), 8);
     assert_eq!(
-        packet::ready_with(&large[..36], LIMIT, 0)
+        packet::ready(Mode::Live, &large[..60], 1000)
+            .unwrap_err()
+            .code(),
+        8
+    );
+    assert_eq!(
+        packet::ready_with(Mode::Live, &large[..36], LIMIT, 0)
             .unwrap_err()
             .code(),
         3
@@ -191,7 +213,7 @@ fn the_probe_says_what_decode_will_say() {
 fn ranges_and_owned_packets_need_no_borrow() {
     let sent = [None, Some(&b""[..]), Some(b"one"), Some(b"three"), None];
     let bytes = message(9, &sent);
-    let mut decoder = Decoder::new();
+    let mut decoder = Decoder::live();
     let owned = decoder
         .decode(&bytes, LIMIT)
         .unwrap()
@@ -209,13 +231,13 @@ fn ranges_and_owned_packets_need_no_borrow() {
 
     let again = owned.clone();
     let mut out = Vec::new();
-    packet::encode(&again.packet(), &mut out).unwrap();
+    packet::encode(Mode::Live, &again.packet(), &mut out).unwrap();
     assert_eq!((out, owned), (bytes, again));
 }
 
 #[test]
 fn an_encoder_writes_the_same_bytes_again_and_again() {
-    let mut encoder = packet::Encoder::new();
+    let mut encoder = packet::Encoder::live();
     for parts in [
         vec![],
         vec![Some(&b"one"[..]), None, Some(b"two")],
@@ -225,7 +247,10 @@ fn an_encoder_writes_the_same_bytes_again_and_again() {
         let id = Guid::from_parts([4, 0, 0, 0]);
         let packet = Packet::message(id, parts.clone(), PacketFlags::NONE);
         let expected = message(4, &parts);
-        assert_eq!(packet::encoded_size(&packet), Ok(expected.len()));
+        assert_eq!(
+            packet::encoded_size(Mode::Live, &packet),
+            Ok(expected.len())
+        );
         assert_eq!(encoder.encode(&packet), Ok(&expected[..]));
         let mut out = b"before".to_vec();
         assert_eq!(encoder.encode_into(&packet, &mut out), Ok(()));
@@ -282,11 +307,11 @@ fn a_peer_cannot_make_a_decoder_hold_much() {
     // 65,536 parts are declared and none is there.
     let parts = vec![None; 1 << 16];
     let bytes = message(1, &parts);
-    let mut decoder = Decoder::new();
+    let mut decoder = Decoder::live();
     assert_eq!(decoder.decode(&bytes[..bytes.len() - 1], LIMIT), Ok(None));
     assert_eq!(decoder.memory(), 0);
     assert!(decoder.decode(&bytes, LIMIT).unwrap().is_some());
-    assert!((1 << 20..=2 << 20).contains(&decoder.memory()));
+    assert!((3 << 19..=3 << 20).contains(&decoder.memory()));
     decoder.shrink_to(16);
-    assert!(decoder.memory() <= 16 * 16);
+    assert!(decoder.memory() <= 16 * 24);
 }

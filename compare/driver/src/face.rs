@@ -10,15 +10,15 @@ pub(crate) use sys::*;
 mod raw {
     use super::Outcome;
     unsafe extern "C" {
-        pub(super) fn cablefinch_decode(o: *mut Outcome, input: *const u8, n: usize, max_message_size: u64, parts: *mut u64, words: usize) -> *mut Outcome;
+        pub(super) fn cablefinch_decode(o: *mut Outcome, mode: u64, input: *const u8, n: usize, max_message_size: u64, parts: *mut u64, words: usize) -> *mut Outcome;
         pub(super) fn cablefinch_part(o: *mut Outcome, input: *const u8, n: usize, parts: *const u64, words: usize, index: usize) -> *mut Outcome;
         pub(super) fn cablefinch_part_checksum(input: *const u8, n: usize, parts: *const u64, words: usize, index: usize) -> u64;
         pub(super) fn cablefinch_read_value(o: *mut Outcome, input: *const u8, n: usize, at: usize) -> *mut Outcome;
     }
 }
 
-pub(crate) fn decode(input: &[u8], limit: u64, parts: &mut [u64]) -> Outcome {
-    ask!(cablefinch_decode [input] limit [mut parts])
+pub(crate) fn decode(mode: u64, input: &[u8], limit: u64, parts: &mut [u64]) -> Outcome {
+    ask!(cablefinch_decode mode [input] limit [mut parts])
 }
 
 pub(crate) fn part(input: &[u8], parts: &[u64], index: usize) -> Outcome {

@@ -20,6 +20,9 @@ const NULL: u64 = u64::MAX;
 /// The words of a part and of a value in a table.
 const PART: u64 = 3;
 const VALUE: u64 = 5;
+/// The modes by the numbers of `face.h`.
+const ARCHIVE: u64 = 0;
+const LIVE: u64 = 1;
 const FILL: u8 = 0xa5;
 const FILL_WORD: u64 = u64::from_ne_bytes([FILL; 8]);
 
@@ -31,7 +34,8 @@ fn main() -> io::Result<()> {
 
 fn answer(line: &[u8]) -> Answer {
     let case: Vec<&[u8]> = line.split(|&byte| byte == b' ').collect();
-    match (case[0], &case[1..]) {
+    let (kind, mode) = mode_of(case[0]);
+    match (kind, &case[1..]) {
         (b"crc", stretches) if !stretches.is_empty() => crc(stretches),
         (b"checksum", [bytes]) => Ok(format!("ok {:016x}", face::checksum(&read_bytes(bytes)?))),
         (b"update", [register, bytes]) => {
@@ -57,18 +61,24 @@ fn answer(line: &[u8]) -> Answer {
         (b"packet", [limit, ceiling, room, bytes]) => {
             let ceiling = narrow(number(ceiling)?, u64::from(u32::MAX))? as u32;
             packet(
+                mode,
                 number(limit)?,
                 Some(ceiling),
                 number(room)?,
                 &read_bytes(bytes)?,
             )
         }
-        (b"packet-default", [limit, room, bytes]) => {
-            packet(number(limit)?, None, number(room)?, &read_bytes(bytes)?)
-        }
+        (b"packet-default", [limit, room, bytes]) => packet(
+            mode,
+            number(limit)?,
+            None,
+            number(room)?,
+            &read_bytes(bytes)?,
+        ),
         (b"packet-write", [kind, flags, id, room, area, parts]) => {
             let (kind, flags, id) = header(kind, flags, id)?;
             packet_write(
+                mode,
                 kind,
                 flags,
                 &id,
@@ -78,6 +88,7 @@ fn answer(line: &[u8]) -> Answer {
             )
         }
         (b"typed-write", [kind, room, area, parts]) => packet_write(
+            mode,
             number(kind)?,
             0,
             &[0; 16],
@@ -87,17 +98,17 @@ fn answer(line: &[u8]) -> Answer {
         ),
         (b"typed-size", [kind, area, parts]) => {
             let kind = number(kind)?;
-            let outcome = face::encoded_size(kind, &read_bytes(area)?, &read_words(parts)?);
+            let outcome = face::encoded_size(mode, kind, &read_bytes(area)?, &read_words(parts)?);
             Ok(or_refusal(&outcome, || format!("ok {}", outcome.count)))
         }
         (b"packet-size", [kind, flags, id, area, parts]) => {
             let (kind, _, _) = header(kind, flags, id)?;
-            let outcome = face::encoded_size(kind, &read_bytes(area)?, &read_words(parts)?);
+            let outcome = face::encoded_size(mode, kind, &read_bytes(area)?, &read_words(parts)?);
             Ok(or_refusal(&outcome, || format!("ok {}", outcome.count)))
         }
         (b"validate", [kind, flags, id, area, parts]) => {
-            header(kind, flags, id)?;
-            let outcome = face::validate(&read_bytes(area)?, &read_words(parts)?);
+            let (kind, _, _) = header(kind, flags, id)?;
+            let outcome = face::validate(mode, kind, &read_bytes(area)?, &read_words(parts)?);
             Ok(or_refusal(&outcome, || "ok".to_string()))
         }
         (b"part", [index, bytes, parts]) => {
@@ -132,6 +143,18 @@ fn answer(line: &[u8]) -> Answer {
 }
 
 // The words of a case.
+
+/// A case's kind without the mode, and the mode.
+fn mode_of(kind: &[u8]) -> (&[u8], u64) {
+    match kind {
+        b"packet-live" => (b"packet", LIVE),
+        b"packet-default-live" => (b"packet-default", LIVE),
+        b"packet-write-live" => (b"packet-write", LIVE),
+        b"packet-size-live" => (b"packet-size", LIVE),
+        b"validate-live" => (b"validate", LIVE),
+        kind => (kind, ARCHIVE),
+    }
+}
 
 /// Bytes that begin so many bytes behind a multiple of eight as the count of them does, as far as
 /// they are no more than `MOVED`.
@@ -197,7 +220,7 @@ fn table(words: u64, most: usize) -> Vec<u64> {
 /// How many values document 01's number carries.
 fn carried(number: u64) -> usize {
     match number {
-        1 | 2 | 3 | 10 | 12 | 13 | 14 | 15 => 1,
+        1 | 2 | 3 | 10 | 12 | 13 | 14 | 15 | 24 => 1,
         4 | 5 | 6 | 8 | 9 | 11 | 16 | 18 => 2,
         7 | 17 => 3,
         _ => 0,
@@ -349,7 +372,7 @@ fn guid_parts(id: &[u8]) -> Answer {
 
 // Packets.
 
-fn packet(limit: u64, ceiling: Option<u32>, room: u64, input: &[u8]) -> Answer {
+fn packet(mode: u64, limit: u64, ceiling: Option<u32>, room: u64, input: &[u8]) -> Answer {
     // Each part has twelve bytes of headers, so more room than that cannot matter. A word more makes
     // no whole entry.
     let mut parts = table(
@@ -358,8 +381,8 @@ fn packet(limit: u64, ceiling: Option<u32>, room: u64, input: &[u8]) -> Answer {
     );
     parts.extend(vec![FILL_WORD; input.len() % PART as usize]);
     let outcome = match ceiling {
-        Some(ceiling) => face::decode_with(input, limit, ceiling, &mut parts),
-        None => face::decode(input, limit, &mut parts),
+        Some(ceiling) => face::decode_with(mode, input, limit, ceiling, &mut parts),
+        None => face::decode(mode, input, limit, &mut parts),
     };
     if outcome.kind == face::MORE {
         assert!(outcome.count == 0 && outcome.number == 0 && outcome.values == [0; 7]);
@@ -399,14 +422,22 @@ fn written(outcome: &Outcome, out: &[u8]) -> String {
     )
 }
 
-fn packet_write(kind: u64, flags: u16, id: &[u8], room: u64, area: &[u8], parts: &[u64]) -> Answer {
+fn packet_write(
+    mode: u64,
+    kind: u64,
+    flags: u16,
+    id: &[u8],
+    room: u64,
+    area: &[u8],
+    parts: &[u64],
+) -> Answer {
     let most = most(
         area,
         64 + 6 * parts.len() as u64,
         parts.iter().skip(1).step_by(PART as usize).copied(),
     );
     let mut out = Placed::filled(room.min(most) as usize);
-    let outcome = face::encode(kind, flags, id, area, parts, &mut out);
+    let outcome = face::encode(mode, kind, flags, id, area, parts, &mut out);
     Ok(written(&outcome, &out))
 }
 

@@ -1,8 +1,8 @@
 //! Answers the comparison's cases with the Rust at the pinned commit: cases on standard input, one
 //! a line, and one answer line for each. The Rust is called and its results are written down; no
 //! answer is worked out here. Where the Rust has none (short room, a table that breaks a rule, the
-//! plain-form check, text that is no UTF-8, a start past the end), the answer is `skip`; where document 02
-//! departs from the Rust, `excepted`.
+//! plain-form check, text that is no UTF-8, a start past the end, type 2 in live mode), the answer is
+//! `skip`; where document 02 departs from the Rust, `excepted`.
 
 #[allow(dead_code)]
 #[path = "../../text.rs"]
@@ -48,7 +48,8 @@ fn main() -> io::Result<()> {
 
 fn answer(line: &[u8]) -> Outcome {
     let case: Vec<&[u8]> = line.split(|&byte| byte == b' ').collect();
-    match (case[0], &case[1..]) {
+    let (kind, live) = mode_of(case[0]);
+    match (kind, &case[1..]) {
         (b"crc", stretches) if !stretches.is_empty() => crc(stretches),
         (b"checksum", [bytes]) => Ok(format!("ok {:016x}", crc64::checksum(&read_bytes(bytes)?))),
         (b"guid-print", [id]) => Ok(format!("ok {}", guid(id)?)),
@@ -56,24 +57,24 @@ fn answer(line: &[u8]) -> Outcome {
         (b"guid-parts", [id]) => guid_parts(guid(id)?),
         (b"packet", [limit, ceiling, room, bytes]) => {
             let ceiling = narrow(number(ceiling)?, u64::from(u32::MAX))? as u32;
-            packet_read(number(limit)?, Some(ceiling), number(room)?, bytes)
+            packet_read(live, number(limit)?, Some(ceiling), number(room)?, bytes)
         }
         (b"packet-default", [limit, room, bytes]) => {
-            packet_read(number(limit)?, None, number(room)?, bytes)
+            packet_read(live, number(limit)?, None, number(room)?, bytes)
         }
         (b"packet-write", [kind, flags, id, room, area, parts]) => {
             let room = number(room)?;
-            packet_write(&packet_of(kind, flags, id, area, parts)?, room)
+            packet_write(&packet_of(live, kind, flags, id, area, parts)?, room)
         }
         (b"packet-size", [kind, flags, id, area, parts]) => {
-            let packet = packet_of(kind, flags, id, area, parts)?;
+            let packet = packet_of(live, kind, flags, id, area, parts)?;
             Ok(match packet::validate(&packet) {
                 Ok(()) => format!("ok {}", packet::encoded_size(&packet)),
                 Err(error) => packet_refusal(error, None),
             })
         }
         (b"validate", [kind, flags, id, area, parts]) => {
-            let packet = packet_of(kind, flags, id, area, parts)?;
+            let packet = packet_of(live, kind, flags, id, area, parts)?;
             Ok(match packet::validate(&packet) {
                 Ok(()) => "ok".to_string(),
                 Err(error) => packet_refusal(error, None),
@@ -145,6 +146,18 @@ fn answer(line: &[u8]) -> Outcome {
 }
 
 // The words of a case and of an answer.
+
+/// A case's kind without the mode, and whether that is live.
+fn mode_of(kind: &[u8]) -> (&[u8], bool) {
+    match kind {
+        b"packet-live" => (b"packet", true),
+        b"packet-default-live" => (b"packet-default", true),
+        b"packet-write-live" => (b"packet-write", true),
+        b"packet-size-live" => (b"packet-size", true),
+        b"validate-live" => (b"validate", true),
+        kind => (kind, false),
+    }
+}
 
 impl From<BadCase> for Without {
     fn from(BadCase: BadCase) -> Self {
@@ -219,8 +232,12 @@ fn packet_refusal(error: PacketError, consumed: Option<usize>) -> String {
     }
 }
 
-fn packet_read(limit: u64, ceiling: Option<u32>, room: u64, bytes: &[u8]) -> Outcome {
+fn packet_read(live: bool, limit: u64, ceiling: Option<u32>, room: u64, bytes: &[u8]) -> Outcome {
     let mut input = BytesMut::from(Bytes::from(read_bytes(bytes)?));
+    // The Rust has no live mode, in which type 2 is refused.
+    if live && input.get(4..6) == Some(&[2, 0]) {
+        return Err(Without::Skip);
+    }
     let start = input.as_ptr() as usize;
     let length = input.len();
     let result = match ceiling {
@@ -275,8 +292,9 @@ fn stored(input: &[u8], count: usize) -> Vec<u64> {
         .collect()
 }
 
-/// The packet that a case describes; `skip` where its table breaks a rule.
+/// The packet that a case describes; `skip` where its table breaks a rule, and for type 2 in live mode.
 fn packet_of(
+    live: bool,
     kind: &[u8],
     flags: &[u8],
     id: &[u8],
@@ -293,6 +311,9 @@ fn packet_of(
     let id = guid(id)?;
     let area = Bytes::from(read_bytes(area)?);
     let parts = parts_of(&area, parts)?;
+    if live && packet_type == PacketType::SslAck {
+        return Err(Without::Skip);
+    }
     Ok(Packet {
         packet_type,
         flags,

@@ -67,20 +67,20 @@ cablefinch-guid-halves-unique id = equal-to-one _
 pub cablefinch-guid-is-null-unique : (id : List ℕ) → OneResult (TellsNull id)
 cablefinch-guid-is-null-unique id = equal-to-one _
 
-pub cablefinch-decode-with-unique : (s : List ℕ) (limit ceiling : ℕ) (table : List ℕ) → OneResult (λ (x : Outcome × List ℕ). Decodes s limit ceiling table (x .0) (x .1))
-cablefinch-decode-with-unique s limit ceiling table = equal-to-two _ _
+pub cablefinch-decode-with-unique : (mode : ℕ) (s : List ℕ) (limit ceiling : ℕ) (table : List ℕ) → OneResult (λ (x : Outcome × List ℕ). Decodes mode s limit ceiling table (x .0) (x .1))
+cablefinch-decode-with-unique mode s limit ceiling table = equal-to-two _ _
 
-pub cablefinch-decode-unique : (s : List ℕ) (limit : ℕ) (table : List ℕ) → OneResult (λ (x : Outcome × List ℕ). Decodes s limit defaultCeiling table (x .0) (x .1))
-cablefinch-decode-unique s limit table = cablefinch-decode-with-unique s limit defaultCeiling table
+pub cablefinch-decode-unique : (mode : ℕ) (s : List ℕ) (limit : ℕ) (table : List ℕ) → OneResult (λ (x : Outcome × List ℕ). Decodes mode s limit defaultCeiling table (x .0) (x .1))
+cablefinch-decode-unique mode s limit table = cablefinch-decode-with-unique mode s limit defaultCeiling table
 
-pub cablefinch-encode-unique : (type flags : ℕ) (id area table out : List ℕ) → OneResult (λ (x : Outcome × List ℕ). Encodes type flags id area table out (x .0) (x .1))
-cablefinch-encode-unique type flags id area table out = equal-to-two _ _
+pub cablefinch-encode-unique : (mode type flags : ℕ) (id area table out : List ℕ) → OneResult (λ (x : Outcome × List ℕ). Encodes mode type flags id area table out (x .0) (x .1))
+cablefinch-encode-unique mode type flags id area table out = equal-to-two _ _
 
-pub cablefinch-encoded-size-unique : (type : ℕ) (area table : List ℕ) → OneResult (Measures type area table)
-cablefinch-encoded-size-unique type area table = equal-to-one _
+pub cablefinch-encoded-size-unique : (mode type : ℕ) (area table : List ℕ) → OneResult (Measures mode type area table)
+cablefinch-encoded-size-unique mode type area table = equal-to-one _
 
-pub cablefinch-validate-unique : (area table : List ℕ) → OneResult (Validates area table)
-cablefinch-validate-unique area table = equal-to-one _
+pub cablefinch-validate-unique : (mode type : ℕ) (area table : List ℕ) → OneResult (Validates mode type area table)
+cablefinch-validate-unique mode type area table = equal-to-one _
 
 pub cablefinch-part-unique : (input table : List ℕ) (i : ℕ) → OneResult (LendsPart input table i)
 cablefinch-part-unique input table i = equal-to-one _

@@ -19,6 +19,8 @@ use Rattle.guid_text.specs.declared.Parsed.{Parsed}
 use Rattle.guid_text.specs.Paper.{parsedPaper}
 use Rattle.guid_text.specs.Statement.{Parses as ParsesText}
 use Rattle.packet.specs.Layout.{lastType}
+use Rattle.packet.specs.declared.Mode.{Mode}
+use Rattle.packet.specs.declared.Mode.the-variants.{Archive, Live}
 use Rattle.packet.specs.Entries.{entries, lentAt, offsetAt}
 use Rattle.packet.specs.Wire.{packetBytes, partsOf}
 use Rattle.packet_read.specs.Reading.{limited, reading}
@@ -57,9 +59,13 @@ TellsNull id r = r ≡ isNull (guidAt id 0)
 
 -- Packets
 
-abbrev pub Decodes : List ℕ → ℕ → ℕ → List ℕ → Outcome → List ℕ → Type 0
-Decodes s limit ceiling table r after =
-    let answer = reading s (limited limit ceiling table) in
+-- a mode is given as a number: 0 is archive, any other is live
+abbrev pub modeOf : ℕ → Mode
+modeOf n = pick (n =? 0) Archive Live
+
+abbrev pub Decodes : ℕ → List ℕ → ℕ → ℕ → List ℕ → Outcome → List ℕ → Type 0
+Decodes mode s limit ceiling table r after =
+    let answer = reading s (limited (modeOf mode) limit ceiling table) in
     Tells answer r × Holds answer (entries s) table after
 
 -- an unknown type is refused by 2, before any other check
@@ -69,16 +75,16 @@ unknownType type = refuse 2 (type ∷ [])
 abbrev pub typed : ℕ → Answer → Answer
 typed type answer = decide (lastType <? type ⇒ unknownType type ∷ []) answer
 
-abbrev pub Encodes : ℕ → ℕ → List ℕ → List ℕ → List ℕ → List ℕ → Outcome → List ℕ → Type 0
-Encodes type flags id area table out r after =
-    let answer = typed type (writing type area table (length out)) in
+abbrev pub Encodes : ℕ → ℕ → ℕ → List ℕ → List ℕ → List ℕ → List ℕ → Outcome → List ℕ → Type 0
+Encodes mode type flags id area table out r after =
+    let answer = typed type (writing (modeOf mode) type area table (length out)) in
     Tells answer r × Holds answer (packetBytes type flags (guidAt id 0) (partsOf area table)) out after
 
-abbrev pub Measures : ℕ → List ℕ → List ℕ → Outcome → Type 0
-Measures type area table r = Tells (typed type (sizing area table type)) r
+abbrev pub Measures : ℕ → ℕ → List ℕ → List ℕ → Outcome → Type 0
+Measures mode type area table r = Tells (typed type (sizing (modeOf mode) type area table)) r
 
-abbrev pub Validates : List ℕ → List ℕ → Outcome → Type 0
-Validates area table r = Tells (validating area table) r
+abbrev pub Validates : ℕ → ℕ → List ℕ → List ℕ → Outcome → Type 0
+Validates mode type area table r = Tells (typed type (validating (modeOf mode) type area table)) r
 
 -- where part i lies: the offset and the length of its stretch, the offset 0 where that is empty
 abbrev pub lentFrom : List ℕ → List ℕ → ℕ → ℕ

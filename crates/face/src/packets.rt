@@ -1,36 +1,59 @@
 // Packets: read into a lent part table, written from one. A type is its number; an unknown one is refused by 2, before all else.
+// A mode is a number too: 0 is archive, any other is live.
 ghost use Rattle.packet.specs.Statement.{PartChecksumIs};
 ghost use Rattle.packet_read.specs.Statement.{defaultCeiling};
-ghost use Rattle.face.specs.Statement.{Decodes, unknownType, Encodes, Measures, Validates, LendsPart, Contains};
+ghost use Rattle.face.specs.Statement.{modeOf, Decodes, unknownType, Encodes, Measures, Validates, LendsPart, Contains};
 ghost use Rattle.words.specs.Paper.{Tells};
+ghost use mathlib.Core.Path.{_≡_};
 use guid::Guid;
+use packet::Mode;
 use packet::PacketFlags;
 use packet::TypeFound;
 use words::outcome::Outcome;
 use words::outcome::refusal;
 use words::outcome::taken;
 
+fn mode_of(number: u64) -> Mode
+    ensures { λ r. ⌜ r ≡ modeOf number ⌝ }
+{
+    if number == 0 {
+        Mode::Archive
+    } else {
+        Mode::Live
+    }
+}
+
 #[no_mangle]
 pub extern "C" fn cablefinch_decode_with(
+    mode: u64,
     input: &[u8],
     max_message_size: u64,
     max_part_count: u32,
     parts: &mut [u64],
 ) -> Outcome
-    ensures { λ r. ⌜ Decodes (now (input .entry)) «max_message_size» «max_part_count» (now (parts .entry)) r (now (parts .exit)) ⌝ }
+    ensures { λ r. ⌜ Decodes mode (now (input .entry)) «max_message_size» «max_part_count» (now (parts .entry)) r (now (parts .exit)) ⌝ }
 {
-    packet_read::outcome(packet_read::decode_with(input, max_message_size, max_part_count, parts))
+    let mode = mode_of(mode);
+    packet_read::outcome(packet_read::decode_with(
+        mode,
+        input,
+        max_message_size,
+        max_part_count,
+        parts,
+    ))
 }
 
 #[no_mangle]
 pub extern "C" fn cablefinch_decode(
+    mode: u64,
     input: &[u8],
     max_message_size: u64,
     parts: &mut [u64],
 ) -> Outcome
-    ensures { λ r. ⌜ Decodes (now (input .entry)) «max_message_size» defaultCeiling (now (parts .entry)) r (now (parts .exit)) ⌝ }
+    ensures { λ r. ⌜ Decodes mode (now (input .entry)) «max_message_size» defaultCeiling (now (parts .entry)) r (now (parts .exit)) ⌝ }
 {
-    packet_read::outcome(packet_read::decode(input, max_message_size, parts))
+    let mode = mode_of(mode);
+    packet_read::outcome(packet_read::decode(mode, input, max_message_size, parts))
 }
 
 fn unknown_type(kind: u64) -> Outcome
@@ -41,6 +64,7 @@ fn unknown_type(kind: u64) -> Outcome
 
 #[no_mangle]
 pub extern "C" fn cablefinch_encode(
+    mode: u64,
     kind: u64,
     flags: u16,
     id: &[u8],
@@ -48,35 +72,61 @@ pub extern "C" fn cablefinch_encode(
     parts: &[u64],
     out: &mut [u8],
 ) -> Outcome
-    ensures { λ r. ⌜ Encodes kind flags (now (id .entry)) (now (area .entry)) (now (parts .entry)) (now (out .entry)) r (now (out .exit)) ⌝ }
+    ensures { λ r. ⌜ Encodes mode kind flags (now (id .entry)) (now (area .entry)) (now (parts .entry)) (now (out .entry)) r (now (out .exit)) ⌝ }
 {
     match packet::type_of(kind) {
         TypeFound::Unknown => unknown_type(kind),
         TypeFound::Known(packet_type) => {
             let guid = Guid::from_bytes(id, 0);
             let flags = PacketFlags(flags);
-            packet_write::outcome(packet_write::encode(packet_type, flags, guid, area, parts, out))
+            let mode = mode_of(mode);
+            packet_write::outcome(packet_write::encode(
+                mode,
+                packet_type,
+                flags,
+                guid,
+                area,
+                parts,
+                out,
+            ))
         }
     }
 }
 
 #[no_mangle]
-pub extern "C" fn cablefinch_encoded_size(kind: u64, area: &[u8], parts: &[u64]) -> Outcome
-    ensures { λ r. ⌜ Measures kind (now (area .entry)) (now (parts .entry)) r ⌝ }
+pub extern "C" fn cablefinch_encoded_size(
+    mode: u64,
+    kind: u64,
+    area: &[u8],
+    parts: &[u64],
+) -> Outcome
+    ensures { λ r. ⌜ Measures mode kind (now (area .entry)) (now (parts .entry)) r ⌝ }
 {
     match packet::type_of(kind) {
         TypeFound::Unknown => unknown_type(kind),
         TypeFound::Known(packet_type) => {
-            packet_check::measured_outcome(packet_check::encoded_size(packet_type, area, parts))
+            let mode = mode_of(mode);
+            packet_check::measured_outcome(packet_check::encoded_size(
+                mode,
+                packet_type,
+                area,
+                parts,
+            ))
         }
     }
 }
 
 #[no_mangle]
-pub extern "C" fn cablefinch_validate(area: &[u8], parts: &[u64]) -> Outcome
-    ensures { λ r. ⌜ Validates (now (area .entry)) (now (parts .entry)) r ⌝ }
+pub extern "C" fn cablefinch_validate(mode: u64, kind: u64, area: &[u8], parts: &[u64]) -> Outcome
+    ensures { λ r. ⌜ Validates mode kind (now (area .entry)) (now (parts .entry)) r ⌝ }
 {
-    packet_check::validated_outcome(packet_check::validate(area, parts))
+    match packet::type_of(kind) {
+        TypeFound::Unknown => unknown_type(kind),
+        TypeFound::Known(packet_type) => {
+            let mode = mode_of(mode);
+            packet_check::validated_outcome(packet_check::validate(mode, packet_type, area, parts))
+        }
+    }
 }
 
 // Where part `index` lies in the input and how long it is; an empty part lies at 0.

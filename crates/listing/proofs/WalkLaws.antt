@@ -20,6 +20,7 @@ use Rattle.packet.specs.Entries.{entryWords, room, entries}
 use Rattle.packet.specs.Paper.{numberOf, fieldsOf}
 use Rattle.packet_read.specs.declared.Decoded.{Decoded}
 use Rattle.packet_read.specs.declared.Decoded.the-variants.{Read, More, Refused}
+use Rattle.packet.specs.declared.Mode.the-variants.{Archive}
 use Rattle.packet_read.specs.Reading.{Limits, limited, reading}
 use Rattle.packet_read.specs.Paper as Read
 use Rattle.packet_read.specs.Statement.{Decodes}
@@ -96,13 +97,13 @@ module _ (s : List ℕ) (offset at : ℕ) (before : List ℕ) where
   module _ (some : offset < length s) (table table′ : List ℕ) (roomy : length table ≡ entryWords * partCeiling) where
     -- the reader's answer
     abbrev Reads : Decoded → Type 0
-    Reads r = Decodes (tail s offset) (limited byteLimit partCeiling table) table r table′
+    Reads r = Decodes (tail s offset) (limited Archive byteLimit partCeiling table) table r table′
 
     at-rest : (r : Decoded) → Reads r → Decodes (drop offset s) limits table r table′
     at-rest r d =
         let rooms : room table ≡ partCeiling = omega arith in
-        subst (λ (k : ℕ). Decodes (drop offset s) (record { bytes = byteLimit; parts = partCeiling; room = k }) table r table′) rooms
-        (subst (λ (t : List ℕ). Decodes t (limited byteLimit partCeiling table) table r table′) (tail-is-drop s offset) d)
+        subst (λ (k : ℕ). Decodes (drop offset s) (record { mode = Archive; bytes = byteLimit; parts = partCeiling; room = k }) table r table′) rooms
+        (subst (λ (t : List ℕ). Decodes t (limited Archive byteLimit partCeiling table) table r table′) (tail-is-drop s offset) d)
 
     answered-so : (r : Decoded) → Reads r → answer s offset ≡ Read.paper r
     answered-so r d = sym (at-rest r d .answer)

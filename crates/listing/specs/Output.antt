@@ -1,5 +1,6 @@
 -- The whole output of `list` for an input, after document 01: it "reads standard input, at most 65,536 bytes (more prints `too
--- long`), with limits 65,536 bytes and 2,048 parts". Assumes nothing.
+-- long`), with limits 65,536 bytes and 2,048 parts". It reads in archive mode, which "still reads, lists and writes
+-- such packets" (document 02, A12). Assumes nothing.
 use Prim.Native.Nat.{ℕ, zero, suc, _+_, _*_}
 use mathlib.Core.List.{List, [], _∷_, _++_}
 use lib.Dec.{leb}
@@ -9,6 +10,7 @@ use Rattle.words.specs.Answer.{Answer, accepted, more, refused}
 use Rattle.words.specs.Paper.{roomLine}
 use Rattle.words.specs.Text.{text}
 use Rattle.words.specs.declared.outcome.Room.the-variants.{Output}
+use Rattle.packet.specs.declared.Mode.the-variants.{Archive}
 use Rattle.packet_read.specs.Reading.{Limits, reading}
 use Rattle.packet.specs.Entries.{entries}
 use Rattle.listing.specs.Text.{packetLine, partLines, endLine, moreLine, refusedLine}
@@ -24,7 +26,7 @@ partCeiling = 2_048
 
 -- the part table has room for every part that the ceiling allows
 abbrev pub limits : Limits
-limits = record { bytes = byteLimit; parts = partCeiling; room = partCeiling }
+limits = record { mode = Archive; bytes = byteLimit; parts = partCeiling; room = partCeiling }
 
 -- the reader's answer to the packet at an offset
 abbrev pub answer : List ℕ → ℕ → Answer

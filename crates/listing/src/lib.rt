@@ -1,6 +1,7 @@
 // What the program `list` prints, whole, as one function of its input: a line for each packet and part, and how the bytes end.
 // The program over it only reads and writes.
 use packet::ENTRY_WORDS;
+use packet::Mode;
 use packet::NULL_CHECKSUM;
 use packet::NULL_LENGTH;
 use packet::refused;
@@ -161,7 +162,13 @@ fn step(input: &[u8], offset: usize, parts: &mut [u64], out: &mut [u8], at: usiz
     if input.len() <= offset {
         return Stepped::Last(end_line(out, at, offset));
     }
-    match packet_read::decode_with(&input[offset..], MAX_MESSAGE_SIZE, MAX_PART_COUNT, parts) {
+    match packet_read::decode_with(
+        Mode::Archive,
+        &input[offset..],
+        MAX_MESSAGE_SIZE,
+        MAX_PART_COUNT,
+        parts,
+    ) {
         Decoded::More => Stepped::Last(more_line(out, at, offset)),
         Decoded::Refused { error, consumed: _ } => {
             let outcome = refused(error, 0);

@@ -13,7 +13,7 @@ use Rattle.words.specs.declared.outcome.NoRoom.{NoRoom as Short}
 use Rattle.packet.specs.declared.PacketType.{PacketType}
 use Rattle.packet.specs.declared.PacketType.the-variants.{Message, Ack, SslAck}
 use Rattle.packet.specs.declared.PacketError.{PacketError}
-use Rattle.packet.specs.declared.PacketError.the-variants.{Signature, UnknownType, TooManyParts, PartTooLarge, FixedHeaderChecksum, VariableHeaderChecksum, PartChecksum, MessageTooLarge, NoRoom, BadTable}
+use Rattle.packet.specs.declared.PacketError.the-variants.{Signature, UnknownType, TooManyParts, PartTooLarge, FixedHeaderChecksum, VariableHeaderChecksum, PartChecksum, MessageTooLarge, NoRoom, BadTable, RetiredType}
 use Rattle.packet.specs.declared.Packet.{Packet}
 use Rattle.packet.specs.Layout.{lastType}
 use Rattle.packet.specs.Paper.{typeNumber, numberOf, valuesOf, refusal, fieldsOf}
@@ -48,8 +48,9 @@ errorOf number values =
     ∷ number =? 7 ⇒ PartChecksum (getD values 0 0) (getD values 1 0) (getD values 2 0)
     ∷ number =? 8 ⇒ MessageTooLarge (getD values 0 0) (getD values 1 0)
     ∷ number =? 17 ⇒ NoRoom (noRoomOf values)
+    ∷ number =? 18 ⇒ BadTable (getD values 0 0) (getD values 1 0)
     ∷ [])
-    (BadTable (getD values 0 0) (getD values 1 0))
+    (RetiredType (getD values 0 0))
 
 pub error-back : (e : PacketError) → errorOf (numberOf e) (valuesOf e) ≡ e
 error-back (Signature found) = refl
@@ -62,6 +63,7 @@ error-back (PartChecksum index stored computed) = refl
 error-back (MessageTooLarge size limit) = refl
 error-back (NoRoom short) = ap (λ (x : Short). NoRoom x) (no-room-back short)
 error-back (BadTable rule position) = refl
+error-back (RetiredType found) = refl
 
 abbrev pub packetOf : List ℕ → Packet
 packetOf fields =

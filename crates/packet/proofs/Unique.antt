@@ -6,10 +6,11 @@ use native.Mathlib.Omega.{arith}
 use Rattle.words.specs.Statement.{OneResult}
 use Rattle.words.proofs.Unique.{equal-to-one}
 use Rattle.packet.specs.declared.PacketType.{PacketType}
+use Rattle.packet.specs.declared.Mode.{Mode}
 use Rattle.packet.specs.declared.TypeFound.the-variants.{Known, Unknown}
 use Rattle.packet.specs.declared.PacketFlags.{PacketFlags}
 use Rattle.packet.specs.declared.PacketError.{PacketError}
-use Rattle.packet.specs.Statement.{NumbersType, FindsType, Refuses, TellsVariableHeader, Contains, TellsNull, TellsOutside, LendsPart, PartChecksumIs}
+use Rattle.packet.specs.Statement.{NumbersType, FindsType, Refuses, TellsRetired, TellsVariableHeader, Contains, TellsNull, TellsOutside, LendsPart, PartChecksumIs}
 use Rattle.packet.proofs.Back.{type-injective, type-known}
 
 pub type-number-unique : (type : PacketType) → OneResult (NumbersType type)
@@ -23,6 +24,9 @@ type-of-unique number Unknown Unknown p q = refl
 
 pub refused-unique : (error : PacketError) (consumed : ℕ) → OneResult (Refuses error consumed)
 refused-unique error consumed = equal-to-one _
+
+pub is-retired-unique : (mode : Mode) (type : PacketType) → OneResult (TellsRetired mode type)
+is-retired-unique mode type = equal-to-one _
 
 pub has-variable-header-unique : (type : PacketType) (n : ℕ) → OneResult (TellsVariableHeader type n)
 has-variable-header-unique type n = equal-to-one _

@@ -7,7 +7,7 @@ use Rattle.words.specs.Paper.{noRoomValues}
 use Rattle.packet.specs.declared.PacketType.{PacketType}
 use Rattle.packet.specs.declared.PacketType.the-variants.{Message, Ack, SslAck}
 use Rattle.packet.specs.declared.PacketError.{PacketError}
-use Rattle.packet.specs.declared.PacketError.the-variants.{Signature, UnknownType, TooManyParts, PartTooLarge, FixedHeaderChecksum, VariableHeaderChecksum, PartChecksum, MessageTooLarge, NoRoom, BadTable}
+use Rattle.packet.specs.declared.PacketError.the-variants.{Signature, UnknownType, TooManyParts, PartTooLarge, FixedHeaderChecksum, VariableHeaderChecksum, PartChecksum, MessageTooLarge, NoRoom, BadTable, RetiredType}
 use Rattle.packet.specs.declared.Packet.{Packet}
 
 abbrev pub typeNumber : PacketType → ℕ
@@ -26,6 +26,7 @@ numberOf (PartChecksum index stored computed) = 7
 numberOf (MessageTooLarge size limit) = 8
 numberOf (NoRoom short) = 17
 numberOf (BadTable rule position) = 18
+numberOf (RetiredType found) = 24
 
 abbrev pub valuesOf : PacketError → List ℕ
 valuesOf (Signature found) = found ∷ []
@@ -38,6 +39,7 @@ valuesOf (PartChecksum index stored computed) = index ∷ stored ∷ computed �
 valuesOf (MessageTooLarge size limit) = size ∷ limit ∷ []
 valuesOf (NoRoom short) = noRoomValues short
 valuesOf (BadTable rule position) = rule ∷ position ∷ []
+valuesOf (RetiredType found) = found ∷ []
 
 abbrev pub refusal : PacketError → ℕ → Answer
 refusal error consumed = refused (numberOf error) (valuesOf error) consumed

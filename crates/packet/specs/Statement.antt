@@ -9,11 +9,13 @@ use Rattle.words.specs.Paper.{Tells}
 use Rattle.words.specs.declared.outcome.Outcome.{Outcome}
 use Rattle.crc64.specs.Polynomial.{checksum}
 use Rattle.packet.specs.declared.PacketType.{PacketType}
+use Rattle.packet.specs.declared.Mode.{Mode}
 use Rattle.packet.specs.declared.TypeFound.{TypeFound}
 use Rattle.packet.specs.declared.TypeFound.the-variants.{Known, Unknown}
 use Rattle.packet.specs.declared.PacketFlags.{PacketFlags}
 use Rattle.packet.specs.declared.PacketError.{PacketError}
 use Rattle.packet.specs.Layout.{lastType, hasVariableHeader}
+use Rattle.packet.specs.Mode.{isRetired}
 use Rattle.packet.specs.Paper.{typeNumber, refusal}
 use Rattle.packet.specs.Entries.{isNull, isOutside, lentAt, lentFrom}
 
@@ -28,6 +30,9 @@ FindsType n Unknown = lastType < n
 -- the refusal in words
 abbrev pub Refuses : PacketError → ℕ → Outcome → Type 0
 Refuses error consumed r = Tells (refusal error consumed) r
+
+abbrev pub TellsRetired : Mode → PacketType → Bool → Type 0
+TellsRetired mode type r = r ≡ isRetired mode (typeNumber type)
 
 -- whether a packet of this type and of n parts has a variable header
 abbrev pub TellsVariableHeader : PacketType → ℕ → Bool → Type 0

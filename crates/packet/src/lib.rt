@@ -5,7 +5,7 @@ use words::outcome::NoRoom;
 use words::outcome::Outcome;
 use words::outcome::refusal;
 use words::outcome::room_number;
-ghost use Rattle.packet.specs.Statement.{TellsVariableHeader, Contains, TellsNull, TellsOutside, LendsPart, PartChecksumIs, NumbersType, FindsType, Refuses};
+ghost use Rattle.packet.specs.Statement.{TellsRetired, TellsVariableHeader, Contains, TellsNull, TellsOutside, LendsPart, PartChecksumIs, NumbersType, FindsType, Refuses};
 
 pub const SIGNATURE: u32 = 0x7861_6d4f;
 
@@ -56,6 +56,12 @@ pub enum PacketType {
     SslAck,
 }
 
+// Whom the caller reads from or writes to. No live peer may send an SslAck; an archive still holds some.
+pub enum Mode {
+    Archive,
+    Live,
+}
+
 // A type by its number: one of the three, or none.
 pub enum TypeFound {
     Known(PacketType),
@@ -73,7 +79,7 @@ pub struct Packet {
     pub parts: u32,
 }
 
-// After the Rust's `PacketError`; `NoRoom` and `BadTable` are the lent tables'.
+// After the Rust's `PacketError`; `NoRoom` and `BadTable` are the lent tables', `RetiredType` is the live mode's.
 pub enum PacketError {
     Signature(u32),
     UnknownType(u16),
@@ -106,6 +112,7 @@ pub enum PacketError {
         rule: u64,
         position: u64,
     },
+    RetiredType(u16),
 }
 
 // The type's number on the wire.
@@ -164,6 +171,21 @@ pub fn refused(error: PacketError, consumed: usize) -> Outcome
             refusal(17, count, room_number(room), short.needed, short.given)
         }
         PacketError::BadTable { rule, position } => refusal(18, count, rule, position, 0),
+        PacketError::RetiredType(found) => refusal(24, count, found as u64, 0, 0),
+    }
+}
+
+// Whether the type is retired in this mode.
+pub fn is_retired(mode: Mode, packet_type: PacketType) -> bool
+    ensures { λ r. ⌜ TellsRetired mode «packet_type» r ⌝ }
+{
+    match mode {
+        Mode::Archive => false,
+        Mode::Live => match packet_type {
+            PacketType::Message => false,
+            PacketType::Ack => false,
+            PacketType::SslAck => true,
+        },
     }
 }
 

@@ -6,6 +6,7 @@ use Prim.Native.Nat.{ℕ}
 use Rattle.words.specs.Answer.{Answer}
 use Rattle.words.specs.Statement.{OneResult}
 use Rattle.words.proofs.Unique.{equal-to-one, means-one}
+use Rattle.packet.specs.declared.Mode.{Mode}
 use Rattle.packet.specs.declared.PacketType.{PacketType}
 use Rattle.packet.proofs.Back.{told, told-back}
 use Rattle.packet_check.specs.declared.Validated.{Validated}
@@ -29,11 +30,11 @@ measured-undone : (r : Measured) → measured-back (paperMeasured r) ≡ r
 measured-undone (Size n) = refl
 measured-undone (Unsized error) = told-back Size Unsized error 0
 
-pub validate-unique : (area table : List ℕ) → OneResult (Validates area table)
-validate-unique area table = means-one paperValidated validated-back validated-undone _
+pub validate-unique : (mode : Mode) (type : PacketType) (area table : List ℕ) → OneResult (Validates mode type area table)
+validate-unique mode type area table = means-one paperValidated validated-back validated-undone _
 
-pub encoded-size-unique : (type : PacketType) (area table : List ℕ) → OneResult (Measures type area table)
-encoded-size-unique type area table = means-one paperMeasured measured-back measured-undone _
+pub encoded-size-unique : (mode : Mode) (type : PacketType) (area table : List ℕ) → OneResult (Measures mode type area table)
+encoded-size-unique mode type area table = means-one paperMeasured measured-back measured-undone _
 
 pub validated-outcome-unique : (answer : Validated) → OneResult (TellsValidated answer)
 validated-outcome-unique answer = equal-to-one _

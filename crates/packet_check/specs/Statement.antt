@@ -4,6 +4,7 @@ use mathlib.Core.List.{List}
 use Rattle.words.specs.Statement.{Means}
 use Rattle.words.specs.Paper.{Tells}
 use Rattle.words.specs.declared.outcome.Outcome.{Outcome}
+use Rattle.packet.specs.declared.Mode.{Mode}
 use Rattle.packet.specs.declared.PacketType.{PacketType}
 use Rattle.packet.specs.Paper.{typeNumber}
 use Rattle.packet_check.specs.declared.Validated.{Validated}
@@ -11,11 +12,11 @@ use Rattle.packet_check.specs.declared.Measured.{Measured}
 use Rattle.packet_check.specs.Checks.{validating, sizing}
 use Rattle.packet_check.specs.Paper.{paperValidated, paperMeasured}
 
-abbrev pub Validates : List ℕ → List ℕ → Validated → Type 0
-Validates area table r = Means paperValidated (validating area table) r
+abbrev pub Validates : Mode → PacketType → List ℕ → List ℕ → Validated → Type 0
+Validates mode type area table r = Means paperValidated (validating mode (typeNumber type) area table) r
 
-abbrev pub Measures : PacketType → List ℕ → List ℕ → Measured → Type 0
-Measures type area table r = Means paperMeasured (sizing area table (typeNumber type)) r
+abbrev pub Measures : Mode → PacketType → List ℕ → List ℕ → Measured → Type 0
+Measures mode type area table r = Means paperMeasured (sizing mode (typeNumber type) area table) r
 
 -- the answers in words
 abbrev pub TellsValidated : Validated → Outcome → Type 0

@@ -4,12 +4,15 @@ use packet::FIXED_HEADER_SIZE;
 use packet::HEADERS_SIZE;
 use packet::MAX_PART_COUNT;
 use packet::MAX_PART_SIZE;
+use packet::Mode;
 use packet::PART_HEADER_SIZE;
 use packet::PacketError;
 use packet::PacketType;
 use packet::has_variable_header;
 use packet::is_null;
 use packet::is_outside;
+use packet::is_retired;
+use packet::type_number;
 use words::outcome::Outcome;
 use words::outcome::taken;
 ghost use mathlib.Core.Path.{_≡_};
@@ -93,10 +96,10 @@ fn first_too_large(parts: &[u64]) -> usize
     index
 }
 
-// Checks that a packet of these parts can be represented on the wire at all, and that the table names only bytes of the
-// area.
-pub fn validate(area: &[u8], parts: &[u64]) -> Validated
-    ensures { λ r. ⌜ Validates (now (area .entry)) (now (parts .entry)) r ⌝ }
+// Checks that a packet of this type and these parts can be represented on the wire at all, that the table names only
+// bytes of the area, and that the type is not retired.
+pub fn validate(mode: Mode, packet_type: PacketType, area: &[u8], parts: &[u64]) -> Validated
+    ensures { λ r. ⌜ Validates mode «packet_type» (now (area .entry)) (now (parts .entry)) r ⌝ }
 {
     let count = parts.len() / ENTRY_WORDS;
     if parts.len() % ENTRY_WORDS != 0 {
@@ -111,6 +114,9 @@ pub fn validate(area: &[u8], parts: &[u64]) -> Validated
             rule: 3,
             position: outside as u64,
         });
+    }
+    if is_retired(mode, packet_type) {
+        return Validated::Refused(PacketError::RetiredType(type_number(packet_type)));
     }
     if (MAX_PART_COUNT as usize) < count {
         return Validated::Refused(PacketError::TooManyParts {
@@ -156,10 +162,10 @@ fn size(packet_type: PacketType, parts: &[u64]) -> usize
 }
 
 // The number of bytes that a writer will write.
-pub fn encoded_size(packet_type: PacketType, area: &[u8], parts: &[u64]) -> Measured
-    ensures { λ r. ⌜ Measures «packet_type» (now (area .entry)) (now (parts .entry)) r ⌝ }
+pub fn encoded_size(mode: Mode, packet_type: PacketType, area: &[u8], parts: &[u64]) -> Measured
+    ensures { λ r. ⌜ Measures mode «packet_type» (now (area .entry)) (now (parts .entry)) r ⌝ }
 {
-    match validate(area, parts) {
+    match validate(mode, packet_type, area, parts) {
         Validated::Refused(error) => Measured::Refused(error),
         Validated::Valid => Measured::Size(size(packet_type, parts)),
     }

@@ -11,6 +11,7 @@ use Rattle.words.specs.Answer.{Answer, accepted, afterwards}
 use Rattle.words.specs.Buffer.{over}
 use Rattle.words.specs.Decide.{_=?_, _<?_}
 use Rattle.words.specs.declared.outcome.Room.the-variants as Room
+use Rattle.packet.specs.declared.Mode.{Mode}
 use Rattle.packet.specs.declared.Packet.{Packet}
 use Rattle.packet.specs.declared.PacketError.{PacketError}
 use Rattle.packet.specs.declared.PacketError.the-variants.{TooManyParts, PartChecksum, NoRoom}
@@ -79,25 +80,25 @@ decodes : {s : List ℕ} {limits : Limits} {table : List ℕ} {r : Decoded} {aft
 decodes {s} {limits} {table} told holds =
     record { answer = told; tables = holds ∙ ap (λ (a : Answer). afterwards a (entries s) table) told }
 
-module _ (s : List ℕ) (limit ceiling : ℕ) (table : List ℕ) where
+module _ (mode : Mode) (s : List ℕ) (limit ceiling : ℕ) (table : List ℕ) where
   abbrev limits : Limits
-  limits = limited limit ceiling table
+  limits = limited mode limit ceiling table
 
   abbrev end : Answer
   end = behind s (count s) limit (room table) (accepted (whole s (count s)) (fields s))
 
-  reading-split : reading s limits ≡ through (fixedLines s) (through (countLines s (count s) ceiling) end)
+  reading-split : reading s limits ≡ through (fixedLines s mode) (through (countLines s (count s) ceiling) end)
   unfolding reading
   reading-split = order-split s (count s) limits (accepted (whole s (count s)) (fields s))
 
-  pub read-more : FixedStage s Fixed.More → Decodes s limits table Decoded.More table
+  pub read-more : FixedStage mode s Fixed.More → Decodes s limits table Decoded.More table
   read-more told = decodes (sym (reading-split ∙ told _)) refl
 
-  pub read-refused : (error : PacketError) → FixedStage s (Fixed.Refused error) → Decodes s limits table (Decoded.Refused error 0) table
+  pub read-refused : (error : PacketError) → FixedStage mode s (Fixed.Refused error) → Decodes s limits table (Decoded.Refused error 0) table
   read-refused error told = decodes (sym (reading-split ∙ told _)) refl
 
   -- with a fixed header that passed
-  module _ (packet : Packet) (header : FixedStage s (Fixed.Header packet)) (most : ℕ) (most-is : most ≡ min mostParts ceiling) where
+  module _ (packet : Packet) (header : FixedStage mode s (Fixed.Header packet)) (most : ℕ) (most-is : most ≡ min mostParts ceiling) where
     counted : packet .parts ≡ count s
     counted = parts-counted s packet (header .2)
 

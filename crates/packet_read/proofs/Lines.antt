@@ -8,6 +8,7 @@ use Rattle.words.specs.Answer.{Answer, accepted, refuse}
 use Rattle.words.specs.Decide.{_≠?_, _<?_, _⇒_}
 use Rattle.words.specs.Note.{answers}
 use Rattle.packet.specs.Layout.{packetSignature, mostParts, lastType, fixedHeaderSize, hasVariableHeader, headers, signature, type, count, fixedSum, fixedFields, fields, variable, variableSum, whole}
+use Rattle.packet.specs.Mode.{isRetired}
 use Rattle.packet_read.specs.Reading.{Limits, fails, firstTooLarge, firstFailing, fixedLines, countLines, variableLines, sizeLines, partLines, roomLines, reading}
 use Rattle.packet_read.specs.Stages.{through, behind}
 use Rattle.packet_read.proofs.OrderLaws.{order-split}
@@ -18,6 +19,7 @@ pub record Before (s : List ℕ) (n : ℕ) (limits : Limits) : Type 0 where
   pub there : (length s <? fixedHeaderSize) ≡ false
   pub signed : (signature s ≠? packetSignature) ≡ false
   pub known : (lastType <? type s) ≡ false
+  pub current : isRetired (limits .mode) (type s) ≡ false
   pub guarded : fails (fixedSum s) (fixedFields s) ≡ false
   pub few : (min mostParts (limits .parts) <? n) ≡ false
 
@@ -41,22 +43,22 @@ module _ (s : List ℕ) (n : ℕ) (limits : Limits) where
   rest = behind s n (limits .bytes) (limits .room) end
 
   abbrev pub front : Answer → Answer
-  front a = through (fixedLines s) (through (countLines s n (limits .parts)) a)
+  front a = through (fixedLines s (limits .mode)) (through (countLines s n (limits .parts)) a)
 
   pub reading-is : count s ≡ n → reading s limits ≡ front rest
   unfolding reading
   reading-is counted =
       order-split s (count s) limits (accepted (whole s (count s)) (fields s))
-      ∙ ap (λ (k : ℕ). through (fixedLines s) (through (countLines s k (limits .parts)) (behind s k (limits .bytes) (limits .room) (accepted (whole s k) (fields s))))) counted
+      ∙ ap (λ (k : ℕ). through (fixedLines s (limits .mode)) (through (countLines s k (limits .parts)) (behind s k (limits .bytes) (limits .room) (accepted (whole s k) (fields s))))) counted
 
   module _ (w : Answer) (good : isAccepted w ≡ true) where
     pub lines-before : front rest ≡ w → Before s n limits × (through (countLines s n (limits .parts)) rest ≡ w)
     unfolding fixedLines countLines
     lines-before e =
-        let fixed = silent (answers (fixedLines s)) (refl, (refl, (refl, (refl, tt)))) e good in
+        let fixed = silent (answers (fixedLines s (limits .mode))) (refl, (refl, (refl, (refl, (refl, tt))))) e good in
         let few = silent (min mostParts (limits .parts) <? n ⇒ refuse 3 (n ∷ []) ∷ []) (refl, tt) (fixed .1) good in
         let t = fixed .0 in
-        (record { there = t .0; signed = t .1 .0; known = t .1 .1 .0; guarded = t .1 .1 .1 .0; few = few .0 .0 }, fixed .1)
+        (record { there = t .0; signed = t .1 .0; known = t .1 .1 .0; current = t .1 .1 .1 .0; guarded = t .1 .1 .1 .1 .0; few = few .0 .0 }, fixed .1)
 
     lines-rest : rest ≡ w → Behind s n limits
     unfolding variableLines sizeLines partLines roomLines
@@ -87,11 +89,11 @@ module _ (s : List ℕ) (n : ℕ) (limits : Limits) where
   module _ (before : Before s n limits) (a : Answer) where
     pub pass-bare : hasVariableHeader (type s) n ≡ false → front a ≡ accepted fixedHeaderSize (fields s)
     unfolding fixedLines countLines
-    pass-bare without = rw (before .there, before .signed, before .known, before .guarded, before .few, without)
+    pass-bare without = rw (before .there, before .signed, before .known, before .current, before .guarded, before .few, without)
 
     pub pass-before : hasVariableHeader (type s) n ≡ true → front a ≡ a
     unfolding fixedLines countLines
-    pass-before with-header = rw (before .there, before .signed, before .known, before .guarded, before .few, with-header)
+    pass-before with-header = rw (before .there, before .signed, before .known, before .current, before .guarded, before .few, with-header)
 
   pub pass-behind : Behind s n limits → rest ≡ end
   unfolding variableLines sizeLines partLines roomLines

@@ -13,6 +13,8 @@ use Rattle.words.specs.Note.{Told, answers}
 use Rattle.words.proofs.DecideLaws.{decide-append, answers-append}
 use Rattle.crc64.specs.Polynomial.{checksum}
 use Rattle.packet.specs.Layout.{packetSignature, mostParts, lastType, fixedHeaderSize, hasVariableHeader, headers, signature, type, fixedSum, fixedFields, fields, variable, variableSum, whole, size, partSum, start, part}
+use Rattle.packet.specs.declared.Mode.{Mode}
+use Rattle.packet.specs.Mode.{isRetired}
 use Rattle.packet_read.specs.Reading.{Limits, fails, order, firstTooLarge, firstFailing, fixedLines, countLines, variableLines, sizeLines, partLines, roomLines}
 use Rattle.packet_read.specs.declared.Variable.{Variable}
 use Rattle.packet_read.specs.declared.Variable.the-variants as Variable
@@ -24,7 +26,7 @@ split xs ys a = ap (λ (l : List (Line Answer)). decide l a) (answers-append xs 
 
 -- the whole order, piece by piece
 pub order-split : (s : List ℕ) (n : ℕ) (limits : Limits) (rest : Answer)
-    → through (order s n limits) rest ≡ through (fixedLines s) (through (countLines s n (limits .parts)) (behind s n (limits .bytes) (limits .room) rest))
+    → through (order s n limits) rest ≡ through (fixedLines s (limits .mode)) (through (countLines s n (limits .parts)) (behind s n (limits .bytes) (limits .room) rest))
 unfolding order
 order-split s n limits rest =
     split (f ++ c ++ v ++ z ++ p) r rest
@@ -34,7 +36,7 @@ order-split s n limits rest =
     ∙ split f c (behind s n (limits .bytes) (limits .room) rest)
   where
     f : List (Line Told)
-    f = fixedLines s
+    f = fixedLines s (limits .mode)
 
     c : List (Line Told)
     c = countLines s n (limits .parts)
@@ -51,32 +53,38 @@ order-split s n limits rest =
     r : List (Line Told)
     r = roomLines n (limits .room)
 
-module _ (s : List ℕ) (rest : Answer) where
-  -- the fixed header: need-more, 1, 2, 5
-  pub fixed-more : length s < fixedHeaderSize → through (fixedLines s) rest ≡ more
+module _ (s : List ℕ) (mode : Mode) (rest : Answer) where
+  -- the fixed header: need-more, 1, 2, 24, 5
+  pub fixed-more : length s < fixedHeaderSize → through (fixedLines s mode) rest ≡ more
   unfolding fixedLines
   fixed-more short = rw (lt-ltb _ _ short)
 
   module _ (found : ℕ) (long : fixedHeaderSize ≤ length s) (read : found ≡ signature s) where
-    pub fixed-signature : (found ≡ packetSignature → ⊥) → through (fixedLines s) rest ≡ refused 1 (found ∷ []) 0
+    pub fixed-signature : (found ≡ packetSignature → ⊥) → through (fixedLines s mode) rest ≡ refused 1 (found ∷ []) 0
     unfolding fixedLines
     fixed-signature other = rw (le-ltb _ _ long, ← read, ne-eqb _ _ other)
 
     module _ (raw : ℕ) (same : found ≡ packetSignature) (read-type : raw ≡ type s) where
-      pub fixed-type : lastType < raw → through (fixedLines s) rest ≡ refused 2 (raw ∷ []) 0
+      pub fixed-type : lastType < raw → through (fixedLines s mode) rest ≡ refused 2 (raw ∷ []) 0
       unfolding fixedLines
       fixed-type high = rw (le-ltb _ _ long, ← read, eq-eqb _ _ same, ← read-type, lt-ltb _ _ high)
 
-      module _ (stored : ℕ) (low : raw ≤ lastType) (read-sum : stored ≡ fixedSum s) where
-        pub fixed-fails : (actual : ℕ) → fails stored (fixedFields s) ≡ true → actual ≡ checksum (fixedFields s)
-            → through (fixedLines s) rest ≡ refused 5 (stored ∷ actual ∷ []) 0
+      module _ (low : raw ≤ lastType) (retired : Bool) (told : retired ≡ isRetired mode raw) where
+        pub fixed-retired : retired ≡ true → through (fixedLines s mode) rest ≡ refused 24 (raw ∷ []) 0
         unfolding fixedLines
-        fixed-fails actual failed is =
-            rw (le-ltb _ _ long, ← read, eq-eqb _ _ same, ← read-type, le-ltb _ _ low, ← read-sum, failed, is)
+        fixed-retired is = rw (le-ltb _ _ long, ← read, eq-eqb _ _ same, ← read-type, le-ltb _ _ low, ← told, is)
 
-        pub fixed-passes : fails stored (fixedFields s) ≡ false → through (fixedLines s) rest ≡ rest
-        unfolding fixedLines
-        fixed-passes passed = rw (le-ltb _ _ long, ← read, eq-eqb _ _ same, ← read-type, le-ltb _ _ low, ← read-sum, passed)
+        module _ (stored : ℕ) (current : retired ≡ false) (read-sum : stored ≡ fixedSum s) where
+          pub fixed-fails : (actual : ℕ) → fails stored (fixedFields s) ≡ true → actual ≡ checksum (fixedFields s)
+              → through (fixedLines s mode) rest ≡ refused 5 (stored ∷ actual ∷ []) 0
+          unfolding fixedLines
+          fixed-fails actual failed is =
+              rw (le-ltb _ _ long, ← read, eq-eqb _ _ same, ← read-type, le-ltb _ _ low, ← told, current, ← read-sum, failed, is)
+
+          pub fixed-passes : fails stored (fixedFields s) ≡ false → through (fixedLines s mode) rest ≡ rest
+          unfolding fixedLines
+          fixed-passes passed =
+              rw (le-ltb _ _ long, ← read, eq-eqb _ _ same, ← read-type, le-ltb _ _ low, ← told, current, ← read-sum, passed)
 
 -- the count of parts: 3, and the packet without a variable header
 module _ (s : List ℕ) (n ceiling : ℕ) (rest : Answer) (most : ℕ) (is : most ≡ min mostParts ceiling) where

@@ -8,6 +8,7 @@ use Rattle.words.specs.Statement.{OneResult}
 use Rattle.words.proofs.Unique.{equal-to-one, means-one, holds-one}
 use Rattle.packet.specs.declared.PacketError.{PacketError}
 use Rattle.packet.specs.declared.Packet.{Packet}
+use Rattle.packet.specs.declared.Mode.{Mode}
 use Rattle.packet.specs.Entries.{entries}
 use Rattle.packet.proofs.Back.{errorOf, error-back, packetOf, packet-back}
 use Rattle.packet_read.specs.declared.Decoded.{Decoded}
@@ -38,9 +39,9 @@ decode-with-unique s limits table x x′ p p′ =
     let table-same = holds-one (reading s limits) (entries s) table (x .1) (x′ .1) (p .tables) (p′ .tables) in
     λ i. (same i, table-same i)
 
-pub decode-unique : (s : List ℕ) (limit : ℕ) (table : List ℕ)
-    → OneResult (λ (x : Decoded × List ℕ). Decodes s (limited limit defaultCeiling table) table (x .0) (x .1))
-decode-unique s limit table = decode-with-unique s (limited limit defaultCeiling table) table
+pub decode-unique : (mode : Mode) (s : List ℕ) (limit : ℕ) (table : List ℕ)
+    → OneResult (λ (x : Decoded × List ℕ). Decodes s (limited mode limit defaultCeiling table) table (x .0) (x .1))
+decode-unique mode s limit table = decode-with-unique s (limited mode limit defaultCeiling table) table
 
 pub outcome-unique : (answer : Decoded) → OneResult (TellsDecoded answer)
 outcome-unique answer = equal-to-one _

@@ -1,29 +1,34 @@
 -- Reading, from document 01: "Order: under 36 bytes, need-more; 1; 2; 5; 3 if n exceeds the smaller of 2^28 and the
 -- ceiling; without a variable header, accept 36 bytes whatever the byte limit; 8 if 44 + 12n exceeds it; need-more; 6;
 -- 4 at the first size above 2^30 that is not null; 8 for the whole length; need-more; 7 at the first failing part; 17."
--- Beside each answer stands what it tells a person (document 02, A9). Assumes nothing.
+-- Document 02, A12: "24 RetiredType (type), in reading directly after 2". Beside each answer stands what it tells a
+-- person (document 02, A9). Assumes nothing.
 use Prim.Native.Nat.{ℕ, _+_, min}
 use mathlib.Core.Bool.{Bool, not, _&&_}
 use mathlib.Core.List.{List, [], _∷_, _++_}
 use lib.ListN.{length}
 use Rattle.words.specs.Decide.{_≠?_, _<?_, Line, _⇒_, decide, first}
 use Rattle.words.specs.Answer.{Answer, accepted, more, refused, refuse}
-use Rattle.words.specs.Note.{Told, _because_, waits, finds, plainly, number, answers}
+use Rattle.words.specs.Note.{Told, _because_, waits, finds, plainly, number, oneOf, answers}
 use Rattle.words.specs.Paper.{roomNumber}
 use Rattle.words.specs.declared.outcome.Room.the-variants.{Parts}
 use Rattle.crc64.specs.Polynomial.{checksum}
 use Rattle.packet.specs.Layout.{packetSignature, largestPart, mostParts, lastType, typeAt, countAt, fixedFieldsSize, fixedHeaderSize, sizePlace, sumPlace, variableSumPlace, hasVariableHeader, headers, signature, type, count, fixedSum, fixedFields, fields, size, isNull, partSum, variable, variableSum, start, whole, part}
 use Rattle.packet.specs.Entries.{room as roomOf}
+use Rattle.packet.specs.declared.Mode.{Mode}
+use Rattle.packet.specs.Mode.{isRetired}
 
--- what a caller allows: the bytes of a packet, its parts, and the entries of the table that it lends
+-- what a caller allows: every type or only those that are not retired, the bytes of a packet, its parts, and the
+-- entries of the table that it lends
 pub record Limits : Type 0 where
+  pub mode : Mode
   pub bytes : ℕ
   pub parts : ℕ
   pub room : ℕ
 
 -- the limits of a call that lends this table
-abbrev pub limited : ℕ → ℕ → List ℕ → Limits
-limited bytes ceiling table = record { bytes = bytes; parts = ceiling; room = roomOf table }
+abbrev pub limited : Mode → ℕ → ℕ → List ℕ → Limits
+limited mode bytes ceiling table = record { mode = mode; bytes = bytes; parts = ceiling; room = roomOf table }
 
 -- a stretch fails the checksum stored for it: a word of 0 is never verified
 abbrev pub fails : ℕ → List ℕ → Bool
@@ -34,12 +39,13 @@ module _ (s : List ℕ) where
   tooLarge i = not (isNull s i) && largestPart <? size s i
 
   -- the fixed header
-  unfoldable pub fixedLines : List (Line Told)
-  fixedLines =
+  unfoldable pub fixedLines : Mode → List (Line Told)
+  fixedLines mode =
       length s <? fixedHeaderSize ⇒ more because waits "fixed-header" fixedHeaderSize
       ∷ signature s ≠? packetSignature ⇒ refuse 1 (signature s ∷ [])
       because finds "signature" 0 (signature s) (number packetSignature)
       ∷ lastType <? type s ⇒ refuse 2 (type s ∷ []) because finds "type" typeAt (type s) (number lastType)
+      ∷ isRetired mode (type s) ⇒ refuse 24 (type s ∷ []) because finds "type" typeAt (type s) (oneOf "0-1")
       ∷ fails (fixedSum s) (fixedFields s) ⇒ refuse 5 (fixedSum s ∷ checksum (fixedFields s) ∷ [])
       because finds "fixed-checksum" fixedFieldsSize (fixedSum s) (number (checksum (fixedFields s)))
       ∷ []
@@ -102,7 +108,8 @@ roomLines n room = room <? n ⇒ refuse 17 (roomNumber Parts ∷ n ∷ room ∷ 
 -- of an input s with n parts
 unfoldable pub order : List ℕ → ℕ → Limits → List (Line Told)
 order s n limits =
-    fixedLines s ++ countLines s n (limits .parts) ++ variableLines s n (limits .bytes) ++ sizeLines s n (limits .bytes)
+    fixedLines s (limits .mode) ++ countLines s n (limits .parts) ++ variableLines s n (limits .bytes)
+    ++ sizeLines s n (limits .bytes)
     ++ partLines s n
     ++ roomLines n (limits .room)
 

@@ -12,6 +12,7 @@ use Rattle.words.specs.Note.{Told, answers}
 use Rattle.crc64.specs.Polynomial.{checksum}
 use Rattle.packet.specs.Layout.{nullSize, largestPart, fixedHeaderSize, fields, size, takenBefore, partSum, start, whole, part}
 use Rattle.packet.specs.Entries.{room, entries}
+use Rattle.packet.specs.declared.Mode.{Mode}
 use Rattle.packet.specs.Paper.{refusal, fieldsOf}
 use Rattle.packet_read.specs.declared.Verdict.{Verdict}
 use Rattle.packet_read.specs.declared.Verdict.the-variants.{Passed, Failed}
@@ -49,11 +50,11 @@ PartVerifies size stored bytes Passed = (not (size =? nullSize) && fails stored 
 PartVerifies size stored bytes (Failed actual) =
     ((not (size =? nullSize) && fails stored bytes) ≡ true) × (actual ≡ checksum bytes)
 
-abbrev pub FixedStage : List ℕ → Fixed → Type 0
-FixedStage s Fixed.More = Stops (through (fixedLines s)) more
-FixedStage s (Fixed.Refused error) = Stops (through (fixedLines s)) (refusal error 0)
-FixedStage s (Fixed.Header header) =
-    Quiet (through (fixedLines s)) × (fixedHeaderSize ≤ length s) × (fieldsOf header ≡ fields s)
+abbrev pub FixedStage : Mode → List ℕ → Fixed → Type 0
+FixedStage mode s Fixed.More = Stops (through (fixedLines s mode)) more
+FixedStage mode s (Fixed.Refused error) = Stops (through (fixedLines s mode)) (refusal error 0)
+FixedStage mode s (Fixed.Header header) =
+    Quiet (through (fixedLines s mode)) × (fixedHeaderSize ≤ length s) × (fieldsOf header ≡ fields s)
 
 -- the sizes: the first that is too large, or what the parts take together
 abbrev pub SizesStage : List ℕ → ℕ → Sizes → Type 0

@@ -12,6 +12,7 @@ use packet::HEADERS_SIZE;
 use packet::ID_AT;
 use packet::MAX_PART_COUNT;
 use packet::MAX_PART_SIZE;
+use packet::Mode;
 use packet::NULL_CHECKSUM;
 use packet::NULL_LENGTH;
 use packet::NULL_PART_SIZE;
@@ -25,6 +26,7 @@ use packet::SIZE_BYTES;
 use packet::TYPE_AT;
 use packet::TypeFound;
 use packet::has_variable_header;
+use packet::is_retired;
 use packet::type_number;
 use words::outcome::NoRoom;
 use words::outcome::Outcome;
@@ -114,8 +116,8 @@ fn header(input: &[u8], packet_type: PacketType) -> Packet
     }
 }
 
-fn fixed_header(input: &[u8]) -> Fixed
-    ensures { λ r. ⌜ FixedStage (now (input .entry)) r ⌝ }
+fn fixed_header(mode: Mode, input: &[u8]) -> Fixed
+    ensures { λ r. ⌜ FixedStage mode (now (input .entry)) r ⌝ }
 {
     if input.len() < FIXED_HEADER_SIZE {
         return Fixed::More;
@@ -128,6 +130,9 @@ fn fixed_header(input: &[u8]) -> Fixed
     match packet::type_of(raw as u64) {
         TypeFound::Unknown => Fixed::Refused(PacketError::UnknownType(raw)),
         TypeFound::Known(packet_type) => {
+            if is_retired(mode, packet_type) {
+                return Fixed::Refused(PacketError::RetiredType(raw));
+            }
             let expected = read_u64(input, FIXED_FIELDS_SIZE);
             match verified(expected, &input[..FIXED_FIELDS_SIZE]) {
                 Verdict::Failed(actual) => {
@@ -349,15 +354,16 @@ fn body(input: &[u8], packet: Packet, count: usize, limit: u64, parts: &mut [u64
 
 // Reads one packet from the front of `input`, if a whole one is there.
 pub fn decode_with(
+    mode: Mode,
     input: &[u8],
     max_message_size: u64,
     max_part_count: u32,
     parts: &mut [u64],
 ) -> Decoded
-    ensures { λ r. ⌜ Decodes (now (input .entry)) (limited «max_message_size» «max_part_count» (now (parts .entry)))
+    ensures { λ r. ⌜ Decodes (now (input .entry)) (limited mode «max_message_size» «max_part_count» (now (parts .entry)))
         (now (parts .entry)) r (now (parts .exit)) ⌝ }
 {
-    match fixed_header(input) {
+    match fixed_header(mode, input) {
         Fixed::More => Decoded::More,
         Fixed::Refused(error) => Decoded::Refused { error, consumed: 0 },
         Fixed::Header(packet) => {
@@ -381,11 +387,11 @@ pub fn decode_with(
 }
 
 // Reads one packet from the front of `input`, of at most 65,536 parts.
-pub fn decode(input: &[u8], max_message_size: u64, parts: &mut [u64]) -> Decoded
-    ensures { λ r. ⌜ Decodes (now (input .entry)) (limited «max_message_size» defaultCeiling (now (parts .entry)))
+pub fn decode(mode: Mode, input: &[u8], max_message_size: u64, parts: &mut [u64]) -> Decoded
+    ensures { λ r. ⌜ Decodes (now (input .entry)) (limited mode «max_message_size» defaultCeiling (now (parts .entry)))
         (now (parts .entry)) r (now (parts .exit)) ⌝ }
 {
-    decode_with(input, max_message_size, DEFAULT_MAX_PART_COUNT, parts)
+    decode_with(mode, input, max_message_size, DEFAULT_MAX_PART_COUNT, parts)
 }
 
 // The answer in document 01's number and values.

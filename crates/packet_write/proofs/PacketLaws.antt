@@ -14,6 +14,7 @@ use Rattle.guid.specs.declared.Guid.{Guid}
 use Rattle.packet.specs.Layout.{hasVariableHeader}
 use Rattle.packet.specs.Entries.{room}
 use Rattle.packet.specs.Paper.{typeNumber, refusal}
+use Rattle.packet.specs.declared.Mode.{Mode}
 use Rattle.packet.specs.declared.PacketType.{PacketType}
 use Rattle.packet.specs.declared.PacketFlags.{PacketFlags}
 use Rattle.packet_write.specs.declared.Encoded.{Encoded}
@@ -66,39 +67,39 @@ module _ (type flags : ℕ) (id : Guid) (area table before : List ℕ)
         subst (λ (w : List ℕ). Filling w (body (partsOf area table)) before now 36) joined (opens header (body (partsOf area table)) 36 (rw joined fits) header-length written)
 
 -- the answers, from that of `encoded_size`
-module _ (type : ℕ) (area table : List ℕ) (given : ℕ) where
-  pub writing-refuses : (error : PacketError) → refusal error 0 ≡ sizing area table type → refusal error 0 ≡ writing type area table given
+module _ (mode : Mode) (type : ℕ) (area table : List ℕ) (given : ℕ) where
+  pub writing-refuses : (error : PacketError) → refusal error 0 ≡ sizing mode type area table → refusal error 0 ≡ writing mode type area table given
   unfolding sizing writing
   writing-refuses error e =
       let needed : ℕ = packetSize type (partsOf area table) in
       let last : Answer = accepted needed [] in
-      sym (decide-append (checks area table) (roomLines needed given) last
-      ∙ decided (checks area table) last (decide (roomLines needed given) last) refl (sym e) refl)
+      sym (decide-append (checks mode type area table) (roomLines needed given) last
+      ∙ decided (checks mode type area table) last (decide (roomLines needed given) last) refl (sym e) refl)
 
-  module _ {needed : ℕ} (e : accepted needed [] ≡ sizing area table type) where
-    writing-room : decide (roomLines needed given) (accepted needed []) ≡ writing type area table given
+  module _ {needed : ℕ} (e : accepted needed [] ≡ sizing mode type area table) where
+    writing-room : decide (roomLines needed given) (accepted needed []) ≡ writing mode type area table given
     unfolding writing
     writing-room =
-        let found = sized area table type e in
-        sym (decide-append (checks area table) (roomLines (packetSize type (partsOf area table)) given) (accepted (packetSize type (partsOf area table)) [])
-        ∙ checks-pass area table (found .0) (decide (roomLines (packetSize type (partsOf area table)) given) (accepted (packetSize type (partsOf area table)) []))
-        ∙ ap (λ (n : ℕ). decide (roomLines n given) (accepted n [])) (found .1))
+        let found = sized mode type area table e in
+        sym (decide-append (checks mode type area table) (roomLines (packetSize type (partsOf area table)) given) (accepted (packetSize type (partsOf area table)) [])
+        ∙ checks-pass mode type area table (found .0) (found .1) (decide (roomLines (packetSize type (partsOf area table)) given) (accepted (packetSize type (partsOf area table)) []))
+        ∙ ap (λ (n : ℕ). decide (roomLines n given) (accepted n [])) (found .2))
 
-    pub writing-short : given < needed → refuse 17 (4 ∷ needed ∷ given ∷ []) ≡ writing type area table given
+    pub writing-short : given < needed → refuse 17 (4 ∷ needed ∷ given ∷ []) ≡ writing mode type area table given
     unfolding roomLines
     writing-short h = rw (lt-ltb given needed h) at writing-room
 
-    pub writing-accepts : needed ≤ given → accepted needed [] ≡ writing type area table given
+    pub writing-accepts : needed ≤ given → accepted needed [] ≡ writing mode type area table given
     unfolding roomLines
     writing-accepts h = rw (le-ltb given needed h) at writing-room
 
     -- so that the packet fits
     pub packet-fits : (flags : ℕ) (id : Guid) → needed ≤ given → length (packetBytes type flags id (partsOf area table)) ≤ given
-    packet-fits flags id h = rw (length-packet type flags id (partsOf area table) ∙ sized area table type e .1) h
+    packet-fits flags id h = rw (length-packet type flags id (partsOf area table) ∙ sized mode type area table e .2) h
 
 -- what the output holds after an answer that is the writing's
-pub encodes : {type : PacketType} {flags : PacketFlags} {id : Guid} {area table out : List ℕ} {r : Encoded} {after : List ℕ}
-    → paper r ≡ writing (typeNumber type) area table (length out) → after ≡ afterwards (paper r) (bytesFor type flags id area table) out
-    → Encodes type flags id area table out r after
-encodes {type} {flags} {id} {area} {table} {out} told holds =
+pub encodes : {mode : Mode} {type : PacketType} {flags : PacketFlags} {id : Guid} {area table out : List ℕ} {r : Encoded} {after : List ℕ}
+    → paper r ≡ writing mode (typeNumber type) area table (length out) → after ≡ afterwards (paper r) (bytesFor type flags id area table) out
+    → Encodes mode type flags id area table out r after
+encodes {mode} {type} {flags} {id} {area} {table} {out} told holds =
     record { answer = told; output = holds ∙ ap (λ (a : Answer). afterwards a (bytesFor type flags id area table) out) told }

@@ -6,6 +6,7 @@ use Rattle.words.specs.Statement.{Means, Holds}
 use Rattle.words.specs.Paper.{Tells}
 use Rattle.words.specs.declared.outcome.Outcome.{Outcome}
 use Rattle.guid.specs.declared.Guid.{Guid}
+use Rattle.packet.specs.declared.Mode.{Mode}
 use Rattle.packet.specs.declared.PacketType.{PacketType}
 use Rattle.packet.specs.declared.PacketFlags.{PacketFlags}
 use Rattle.packet.specs.Paper.{typeNumber}
@@ -20,10 +21,11 @@ bytesFor type flags id area table = packetBytes (typeNumber type) (flags .0) id 
 
 -- writing answers r, and the output that held `out` holds `after`: document 01, "Writing fills the output from its
 -- front, reports its bytes and leaves the rest."
-pub record Encodes (type : PacketType) (flags : PacketFlags) (id : Guid) (area table out : List ℕ) (r : Encoded)
-    (after : List ℕ) : Type 0 where
-  pub answer : Means paper (writing (typeNumber type) area table (length out)) r
-  pub output : Holds (writing (typeNumber type) area table (length out)) (bytesFor type flags id area table) out after
+pub record Encodes (mode : Mode) (type : PacketType) (flags : PacketFlags) (id : Guid) (area table out : List ℕ)
+    (r : Encoded) (after : List ℕ) : Type 0 where
+  pub answer : Means paper (writing mode (typeNumber type) area table (length out)) r
+  pub output :
+      Holds (writing mode (typeNumber type) area table (length out)) (bytesFor type flags id area table) out after
 
 -- the answer in words
 abbrev pub TellsEncoded : Encoded → Outcome → Type 0

@@ -8,6 +8,7 @@ use packet::FIXED_FIELDS_SIZE;
 use packet::FIXED_HEADER_SIZE;
 use packet::FLAGS_AT;
 use packet::ID_AT;
+use packet::Mode;
 use packet::NULL_PART_SIZE;
 use packet::PART_HEADER_SIZE;
 use packet::PacketError;
@@ -172,6 +173,7 @@ fn write_packet(
 // Writes the packet to the front of `out`. Fails on parts that `validate` would reject, so that what this writes, a
 // reader accepts.
 pub fn encode(
+    mode: Mode,
     packet_type: PacketType,
     flags: PacketFlags,
     id: Guid,
@@ -179,10 +181,10 @@ pub fn encode(
     parts: &[u64],
     out: &mut [u8],
 ) -> Encoded
-    ensures { λ r. ⌜ Encodes «packet_type» flags id (now (area .entry)) (now (parts .entry)) (now (out .entry))
+    ensures { λ r. ⌜ Encodes mode «packet_type» flags id (now (area .entry)) (now (parts .entry)) (now (out .entry))
         r (now (out .exit)) ⌝ }
 {
-    match packet_check::encoded_size(packet_type, area, parts) {
+    match packet_check::encoded_size(mode, packet_type, area, parts) {
         Measured::Refused(error) => Encoded::Refused(error),
         Measured::Size(needed) => {
             if out.len() < needed {

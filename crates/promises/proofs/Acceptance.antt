@@ -65,6 +65,7 @@ module _ (s : List ℕ) (limits : Limits) where
         there = ltb-false (length s) fixedHeaderSize (b .there);
         signed = same-word (signature s) packetSignature (b .signed);
         known = ltb-false lastType (type s) (b .known);
+        current = b .current;
         guarded = guards (fixedSum s) (fixedFields s) (b .guarded);
         few = ltb-false (min mostParts (limits .parts)) (count s) (b .few);
       }
@@ -88,6 +89,7 @@ module _ (s : List ℕ) (limits : Limits) where
         there = le-ltb (length s) fixedHeaderSize (f .there);
         signed = ap not (eq-eqb (signature s) packetSignature (f .signed));
         known = le-ltb lastType (type s) (f .known);
+        current = f .current;
         guarded = unfailed (fixedSum s) (fixedFields s) (f .guarded);
         few = le-ltb (min mostParts (limits .parts)) (count s) (f .few);
       }

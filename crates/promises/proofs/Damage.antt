@@ -17,6 +17,8 @@ use Rattle.words.proofs.DecideLaws.{first-at, first-same}
 use Rattle.crc64.specs.Polynomial.{checksum}
 use Rattle.crc64.specs.Damage.{Damaged}
 use Rattle.packet.specs.Layout.{packetSignature, nullSize, largestPart, lastType, fixedFieldsSize, fixedHeaderSize, hasVariableHeader, headers, signature, type, count, fixedSum, fixedFields, size, isNull, taken, takenBefore, partSum, variable, variableSum, start, whole, part}
+use Rattle.packet.specs.declared.Mode.{Mode}
+use Rattle.packet.specs.Mode.{isRetired}
 use Rattle.packet_read.specs.Paper.{paper}
 use Rattle.packet.specs.Paper.{fieldsOf}
 use Rattle.promises.proofs.TablesKeep.{packet-tables-keep}
@@ -44,7 +46,7 @@ module _ (s t : List ℕ) (limits : Limits) {at run : ℕ} (damaged : Damaged at
 
   module _ (before : Before s (count s) limits) where
     -- bytes 0 to 27
-    fixed-named : (fixedSum s ≡ 0 → ⊥) → at + run ≤ fixedFieldsSize → Changed 0 fixedFieldsSize → Names t fixedHeader (reading t limits)
+    fixed-named : (fixedSum s ≡ 0 → ⊥) → at + run ≤ fixedFieldsSize → Changed 0 fixedFieldsSize → Names t (limits .mode) fixedHeader (reading t limits)
     unfolding fixedLines
     fixed-named kept high changed = reading-is t (count t) limits refl ∙ by-signature (signature t ≠? packetSignature) refl
       where
@@ -57,11 +59,16 @@ module _ (s t : List ℕ) (limits : Limits) {at run : ℕ} (damaged : Damaged at
         failed : fails (fixedSum t) (fixedFields t) ≡ true
         failed = rw (← word-is) (broken (fixedSum s) (fixedFields s) (fixedFields t) kept (before .guarded) changed)
 
-        by-type : (b : Bool) → (signature t ≠? packetSignature) ≡ false → (lastType <? type t) ≡ b → Names t fixedHeader (front t (count t) limits (rest t (count t) limits))
-        by-type true e₁ e₂ = rw (long-enough, e₁, e₂)
-        by-type false e₁ e₂ = rw (long-enough, e₁, e₂, failed)
+        by-retired : (b : Bool) → (signature t ≠? packetSignature) ≡ false → (lastType <? type t) ≡ false → isRetired (limits .mode) (type t) ≡ b
+            → Names t (limits .mode) fixedHeader (front t (count t) limits (rest t (count t) limits))
+        by-retired true e₁ e₂ e₃ = rw (long-enough, e₁, e₂, e₃)
+        by-retired false e₁ e₂ e₃ = rw (long-enough, e₁, e₂, e₃, failed)
 
-        by-signature : (b : Bool) → (signature t ≠? packetSignature) ≡ b → Names t fixedHeader (front t (count t) limits (rest t (count t) limits))
+        by-type : (b : Bool) → (signature t ≠? packetSignature) ≡ false → (lastType <? type t) ≡ b → Names t (limits .mode) fixedHeader (front t (count t) limits (rest t (count t) limits))
+        by-type true e₁ e₂ = rw (long-enough, e₁, e₂)
+        by-type false e₁ e₂ = by-retired (isRetired (limits .mode) (type t)) e₁ e₂ refl
+
+        by-signature : (b : Bool) → (signature t ≠? packetSignature) ≡ b → Names t (limits .mode) fixedHeader (front t (count t) limits (rest t (count t) limits))
         by-signature true e = rw (long-enough, e)
         by-signature false e = by-type (lastType <? type t) e refl
 
@@ -79,6 +86,7 @@ module _ (s t : List ℕ) (limits : Limits) {at run : ℕ} (damaged : Damaged at
             there = rw (← damaged .same-length) (before .there);
             signed = rw (← same-word damaged 4 0 (inl (omega arith))) (before .signed);
             known = rw (← same-type) (before .known);
+            current = rw (← same-type) (before .current);
             guarded = rw (← same-word damaged 8 28 (inl (omega arith)), ← same-stretch damaged 0 28 (inl (omega arith))) (before .guarded);
             few = before .few;
           }
@@ -98,7 +106,7 @@ module _ (s t : List ℕ) (limits : Limits) {at run : ℕ} (damaged : Damaged at
         length-too m e = rw (← damaged .same-length) e
 
         -- bytes 36 to 36 + 12n
-        variable-named : (variableSum s n ≡ 0 → ⊥) → at + run ≤ 36 + 12 * n → Changed 36 (12 * n) → Names t variableHeader (reading t limits)
+        variable-named : (variableSum s n ≡ 0 → ⊥) → at + run ≤ 36 + 12 * n → Changed 36 (12 * n) → Names t (limits .mode) variableHeader (reading t limits)
         unfolding variableLines
         variable-named kept high changed = rw (← same-count) (answer-is ∙ rw (behind .short, length-too (headers n) (behind .headers-there), failed))
           where
@@ -168,7 +176,7 @@ module _ (s t : List ℕ) (limits : Limits) {at run : ℕ} (damaged : Damaged at
             whole-too : whole s n ≡ whole t n
             whole-too = ap (λ (w : ℕ). headers n + w) (same-taken n (omega arith))
 
-            part-named : Names t (partAt i) (reading t limits)
+            part-named : Names t (limits .mode) (partAt i) (reading t limits)
             unfolding variableLines sizeLines partLines
             part-named =
                 rw (← same-count)
@@ -191,7 +199,7 @@ counted-header : (s : List ℕ) (i : ℕ) → i < count s → hasVariableHeader 
 counted-header s i h = rw (lt-ltb 0 (count s) (omega arith)) (or-true (type s =? 0))
 
 reading-names : (s t : List ℕ) (limits : Limits) (n : ℕ) (f : List ℕ) (part : Stretch) (at run : ℕ)
-    → reading s limits ≡ accepted n f → Confined s t part at run → Names t part (reading t limits)
+    → reading s limits ≡ accepted n f → Confined s t part at run → Names t (limits .mode) part (reading t limits)
 reading-names s t limits n f fixedHeader at run e c =
     fixed-named s t limits (c .inside .damaged) (passed-before s limits n f e) (c .guarded) (rw (zero-add fixedFieldsSize) at (c .inside .ends)) (c .changed)
 reading-names s t limits n f variableHeader at run e c =
@@ -211,27 +219,28 @@ reading-names s t limits n f (partAt i) at run e c =
     (c .changed)
 
 -- an answer that names a stretch is no acceptance
-pub not-taken : (t : List ℕ) (part : Stretch) (a : Answer) → Names t part a → NotTaken a
-not-taken t fixedHeader a named = rw named (by-tests (signature t ≠? packetSignature) (lastType <? type t))
+pub not-taken : (t : List ℕ) (mode : Mode) (part : Stretch) (a : Answer) → Names t mode part a → NotTaken a
+not-taken t mode fixedHeader a named = rw named (by-tests (signature t ≠? packetSignature) (lastType <? type t) (isRetired mode (type t)))
   where
-    by-tests : (unsigned unknown : Bool)
-        → NotTaken (pick unsigned (refuse 1 (signature t ∷ [])) (pick unknown (refuse 2 (type t ∷ [])) (refuse 5 (fixedSum t ∷ checksum (fixedFields t) ∷ []))))
-    by-tests true unknown = tt
-    by-tests false true = tt
-    by-tests false false = tt
-not-taken t variableHeader a named = rw named tt
-not-taken t (partAt i) a named = rw named tt
+    by-tests : (unsigned unknown retired : Bool)
+        → NotTaken (pick unsigned (refuse 1 (signature t ∷ [])) (pick unknown (refuse 2 (type t ∷ [])) (pick retired (refuse 24 (type t ∷ [])) (refuse 5 (fixedSum t ∷ checksum (fixedFields t) ∷ [])))))
+    by-tests true unknown retired = tt
+    by-tests false true retired = tt
+    by-tests false false true = tt
+    by-tests false false false = tt
+not-taken t mode variableHeader a named = rw named tt
+not-taken t mode (partAt i) a named = rw named tt
 
 -- Damage that is confined to one checksummed stretch whose stored word is not 0, and that changed its checksum, is
 -- named, and the lent table is left as it was.
 pub confined-is-named : ConfinedIsNamed
 confined-is-named s t limits table lent packet consumed filled r after part at run taken hit told =
-    let named : Names t part (paper r) = rw (told .answer) (reading-names s t limits consumed (fieldsOf packet) part at run (sym (taken .answer)) hit) in
-    (named, packet-tables-keep t limits lent r after told .0 (not-taken t part (paper r) named))
+    let named : Names t (limits .mode) part (paper r) = rw (told .answer) (reading-names s t limits consumed (fieldsOf packet) part at run (sym (taken .answer)) hit) in
+    (named, packet-tables-keep t limits lent r after told .0 (not-taken t (limits .mode) part (paper r) named))
 
 -- Demand 3: damage is named. An accepted packet, damaged only inside one run of at most 64 bits of one checksummed
 -- stretch whose stored word is not 0, is refused by that stretch's checksum (or by 1 or 2, where its signature or type
--- is none any more): an altered term does not pass for another term.
+-- is none any more, or in live mode by 24, where its type is now a retired one): an altered term does not pass for another term.
 pub damage-is-named : DamageIsNamed
 damage-is-named s t limits table lent packet consumed filled r after part at run taken hit =
     confined-is-named s t limits table lent packet consumed filled r after part (from s part) (long s part) taken
@@ -279,9 +288,9 @@ bytes-are-named s t limits table lent packet consumed filled r after part at run
 
 -- Of a call of `decode_with`, and of one of `decode`: tables of one length have one room.
 pub decode-with-names-damage : DecodeWithNamesDamage
-decode-with-names-damage ceiling s t limit table lent packet consumed filled r after part at run even taken hit told =
-    damage-is-named s t (limited limit ceiling table) table lent packet consumed filled r after part at run taken hit
-    (subst (λ (n : ℕ). Decodes t (record { bytes = limit; parts = ceiling; room = n / entryWords }) lent r after) (sym even) told)
+decode-with-names-damage mode ceiling s t limit table lent packet consumed filled r after part at run even taken hit told =
+    damage-is-named s t (limited mode limit ceiling table) table lent packet consumed filled r after part at run taken hit
+    (subst (λ (n : ℕ). Decodes t (record { mode = mode; bytes = limit; parts = ceiling; room = n / entryWords }) lent r after) (sym even) told)
 
 pub decode-names-damage : DecodeNamesDamage
-decode-names-damage = decode-with-names-damage defaultCeiling
+decode-names-damage mode = decode-with-names-damage mode defaultCeiling

@@ -10,6 +10,8 @@ use lib.Seq.{take-at}
 use Rattle.words.specs.Answer.{Answer, accepted, refused, afterwards}
 use Rattle.words.specs.Decide.{pick, _<?_, decide}
 use Rattle.words.proofs.DecideLaws.{decide-append}
+use Rattle.packet.specs.declared.Mode.{Mode}
+use Rattle.packet.specs.Mode.{isRetired}
 use Rattle.packet.specs.declared.PacketType.{PacketType}
 use Rattle.packet.proofs.Back.{type-known}
 use Rattle.packet.specs.declared.PacketFlags.{PacketFlags}
@@ -46,16 +48,16 @@ module _ (area table : List ℕ) where
       rw (length-content table area i (inside-at table area i h (good .inside))) (taken-most (offsetAt table i) (sizeAt table i) (small-at table i h (good .small)))
 
   -- what an acceptance says of the table, and how many bytes it counts
-  module _ (type given-room n : ℕ) (e : accepted n [] ≡ writing type area table given-room) where
-    checked : Passes area table × (decide (roomLines (packetSize type (partsOf area table)) given-room) (accepted (packetSize type (partsOf area table)) []) ≡ accepted n [])
+  module _ (mode : Mode) (type given-room n : ℕ) (e : accepted n [] ≡ writing mode type area table given-room) where
+    checked : Passes area table × (isRetired mode type ≡ false) × (decide (roomLines (packetSize type (partsOf area table)) given-room) (accepted (packetSize type (partsOf area table)) []) ≡ accepted n [])
     unfolding writing
     checked =
         let needed = packetSize type (partsOf area table) in
-        passes area table (sym (decide-append (checks area table) (roomLines needed given-room) (accepted needed [])) ∙ sym e) refl
+        passes mode type area table (sym (decide-append (checks mode type area table) (roomLines needed given-room) (accepted needed [])) ∙ sym e) refl
 
     size-is : packetSize type (partsOf area table) ≡ n
     unfolding roomLines
-    size-is = by-room (given-room <? packetSize type (partsOf area table)) (checked .1)
+    size-is = by-room (given-room <? packetSize type (partsOf area table)) (checked .2)
       where
         by-room : (b : Bool) → pick b (refused 17 (4 ∷ packetSize type (partsOf area table) ∷ given-room ∷ []) 0) (accepted (packetSize type (partsOf area table)) []) ≡ accepted n []
             → packetSize type (partsOf area table) ≡ n
@@ -63,10 +65,10 @@ module _ (area table : List ℕ) where
         by-room false e = cc
 
 -- what `encode` wrote is a valid packet
-pub given-valid : (type : PacketType) (flags : PacketFlags) (id : Guid) (area table out : List ℕ) (n : ℕ) (after : List ℕ)
-    → flags .0 < 2 ^ 16 → Fitting id → Encodes type flags id area table out (Written n) after → Valid (given type flags id area table)
-given-valid type flags id area table out n after flags-fit id-fits told =
-    let good : Passes area table = checked area table (typeNumber type) (length out) n (told .answer) .0 in
+pub given-valid : (mode : Mode) (type : PacketType) (flags : PacketFlags) (id : Guid) (area table out : List ℕ) (n : ℕ) (after : List ℕ)
+    → flags .0 < 2 ^ 16 → Fitting id → Encodes mode type flags id area table out (Written n) after → Valid (given type flags id area table)
+given-valid mode type flags id area table out n after flags-fit id-fits told =
+    let good : Passes area table = checked area table mode (typeNumber type) (length out) n (told .answer) .0 in
     let counted : length (partsOf area table) ≡ room table = length-parts table area 0 (room table) in
     record {
       known = type-known type;
@@ -76,10 +78,13 @@ given-valid type flags id area table out n after flags-fit id-fits told =
       small = λ i h. let below : i < room table = rw counted at h in rw (part-given area table (room table) 0 i below, zero-add i) (small-part area table good i below);
     }
 
-module _ (type : PacketType) (flags : PacketFlags) (id : Guid) (area table out : List ℕ) (n : ℕ) (after : List ℕ)
-    (told : Encodes type flags id area table out (Written n) after) where
+module _ (mode : Mode) (type : PacketType) (flags : PacketFlags) (id : Guid) (area table out : List ℕ) (n : ℕ) (after : List ℕ)
+    (told : Encodes mode type flags id area table out (Written n) after) where
   pub written-size : wireSize (given type flags id area table) ≡ n
-  written-size = size-is area table (typeNumber type) (length out) n (told .answer)
+  written-size = size-is area table mode (typeNumber type) (length out) n (told .answer)
+
+  pub written-current : isRetired mode (typeNumber type) ≡ false
+  written-current = checked area table mode (typeNumber type) (length out) n (told .answer) .1
 
   pub written-bytes : take n after ≡ wire (given type flags id area table)
   written-bytes =
@@ -94,5 +99,5 @@ module _ (type : PacketType) (flags : PacketFlags) (id : Guid) (area table out :
       × ((i : ℕ) → i < length (partsOf area table) → ReadsPart (take n after ++ tail) (length (partsOf area table)) i (getD (partsOf area table) i null))
   written-reads tail limits flags-fit id-fits held =
       let m = given type flags id area table in
-      let back = round-trip m limits tail (given-valid type flags id area table out n after flags-fit id-fits told) held in
+      let back = round-trip m limits tail (given-valid mode type flags id area table out n after flags-fit id-fits told) held in
       rw (written-bytes, ← written-size) back

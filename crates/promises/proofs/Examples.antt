@@ -23,4 +23,4 @@ unfolding Word.bytesOf Word.word Decide.firstFrom Polynomial.step Polynomial.ste
 examples =
     let plus : TextAnswered (text "+1-2-3-4") (refuse 16 (0 ∷ 3 ∷ [])) = (Bad 0 NotHex, parses _ (Bad 0 NotHex) refl, refl) in
     let three : TextAnswered (text "0-0-0") (refuse 16 (5 ∷ 4 ∷ [])) = (Bad 5 FieldCount, parses _ (Bad 5 FieldCount) refl, refl) in
-    (refl, refl, refl, refl, refl, refl, plus, three, refl, refl, refl, refl, refl, refl, refl, refl)
+    (refl, refl, refl, refl, refl, refl, plus, three, refl, refl, refl, refl, refl, refl, refl, refl, refl, refl, refl)

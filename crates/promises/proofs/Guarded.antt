@@ -13,6 +13,7 @@ use Rattle.packet.specs.Layout.{hasVariableHeader, count, partSum}
 use Rattle.packet.specs.Entries.{entryWords, room, isOutside, isTooLarge, offsetAt, sizeAt, sumAt, outsideAt, tooLargeAt, isNull}
 use Rattle.packet.specs.Paper.{typeNumber}
 use Rattle.packet.specs.Wire.{Part, null, bytes, sumWord, partAt, partsFrom, partsOf}
+use Rattle.packet.specs.declared.Mode.{Mode}
 use Rattle.packet.specs.declared.Packet.{Packet}
 use Rattle.packet_read.specs.declared.Decoded.the-variants.{Read}
 use Rattle.packet_read.specs.Statement.{Decodes}
@@ -28,14 +29,14 @@ use Rattle.promises.proofs.RoundTrip.{is-count, is-sum}
 
 -- What `encode` wrote, read back: each part's checksum, 0 for a null one.
 pub written-is-guarded : WrittenIsGuarded
-written-is-guarded type flags id area table out n after tail limits lent r filled flags-fit id-fits told roomy held read i h =
+written-is-guarded mode type flags id area table out n after tail limits lent r filled flags-fit id-fits told roomy held read i h =
     let s : List ℕ = take n after ++ tail in
     let m = given type flags id area table in
     let p : Packet = record { «packet_type» = type; flags = flags; id = id; parts = length (partsOf area table) } in
-    let ok : Valid m = given-valid type flags id area table out n after flags-fit id-fits told in
-    let same = written-is-lent type flags id area table out n after tail limits lent r filled flags-fit id-fits told roomy held read .0 in
+    let ok : Valid m = given-valid mode type flags id area table out n after flags-fit id-fits told in
+    let same = written-is-lent mode type flags id area table out n after tail limits lent r filled flags-fit id-fits told roomy held read .0 in
     let read-so : Decodes s limits lent (Read p n) filled = rw same at read in
-    let as-wire : s ≡ wire m ++ tail = ap (λ (l : List ℕ). l ++ tail) (written-bytes type flags id area table out n after told) in
+    let as-wire : s ≡ wire m ++ tail = ap (λ (l : List ℕ). l ++ tail) (written-bytes mode type flags id area table out n after told) in
     let counted : count s ≡ length (partsOf area table) = ap count as-wire ∙ is-count m tail ok in
     let there : hasVariableHeader (typeNumber type) (length (partsOf area table)) ≡ true =
     rw (lt-ltb 0 (length (partsOf area table)) (omega arith)) (or-true (typeNumber type =? 0)) in
@@ -60,9 +61,9 @@ module _ (area table other : List ℕ) (same : SameStretches table other) where
       first-same (tooLargeAt table) (tooLargeAt other) 0 (room table) (λ k low high. ap₂ isTooLarge (same .offsets k) (same .sizes k))
       ∙ ap (first (tooLargeAt other)) same-room
 
-  checks-same : checks area table ≡ checks area other
+  checks-same : (mode : Mode) (type : ℕ) → checks mode type area table ≡ checks mode type area other
   unfolding checks tableLines limitLines
-  checks-same = rw (outside-same, large-same, same .same-length, same .sizes (firstTooLarge other))
+  checks-same mode type = rw (outside-same, large-same, same .same-length, same .sizes (firstTooLarge other))
 
   parts-from-same : (i k : ℕ) → partsFrom area table i k ≡ partsFrom area other i k
   unfolding partsFrom
@@ -75,26 +76,26 @@ module _ (area table other : List ℕ) (same : SameStretches table other) where
   parts-of-same : partsOf area table ≡ partsOf area other
   parts-of-same = parts-from-same 0 (room table) ∙ ap (partsFrom area other 0) same-room
 
-  writing-same : (type given : ℕ) → writing type area table given ≡ writing type area other given
+  writing-same : (mode : Mode) (type given : ℕ) → writing mode type area table given ≡ writing mode type area other given
   unfolding writing
-  writing-same type given = rw (checks-same, parts-of-same)
+  writing-same mode type given = rw (checks-same mode type, parts-of-same)
 
-  sizing-same : (type : ℕ) → sizing area table type ≡ sizing area other type
+  sizing-same : (mode : Mode) (type : ℕ) → sizing mode type area table ≡ sizing mode type area other
   unfolding sizing
-  sizing-same type = rw (checks-same, parts-of-same)
+  sizing-same mode type = rw (checks-same mode type, parts-of-same)
 
-  validating-same : validating area table ≡ validating area other
+  validating-same : (mode : Mode) (type : ℕ) → validating mode type area table ≡ validating mode type area other
   unfolding validating
-  validating-same = rw checks-same
+  validating-same mode type = rw (checks-same mode type)
 
 -- Tables that differ at most in their third words are answered alike.
 pub third-word-unread : ThirdWordUnread
-third-word-unread area table other same = (
-  λ type flags id out r after told.
+third-word-unread mode type area table other same = (
+  λ flags id out r after told.
       record {
-        answer = rw (← writing-same area table other same (typeNumber type) (length out)) (told .answer);
-        output = rw (← writing-same area table other same (typeNumber type) (length out), ← parts-of-same area table other same) (told .output);
+        answer = rw (← writing-same area table other same mode (typeNumber type) (length out)) (told .answer);
+        output = rw (← writing-same area table other same mode (typeNumber type) (length out), ← parts-of-same area table other same) (told .output);
       },
-  λ type r told. rw (← sizing-same area table other same (typeNumber type)) told,
-  λ r told. rw (← validating-same area table other same) told,
+  λ r told. rw (← sizing-same area table other same mode (typeNumber type)) told,
+  λ r told. rw (← validating-same area table other same mode (typeNumber type)) told,
 )

@@ -10,6 +10,7 @@ pub mod RoundTrip
 pub mod Prefix
 pub mod Encoded
 pub mod Parts
+pub mod Live
 pub mod Guarded
 pub mod CellRound
 pub mod ContentRound

@@ -5,7 +5,7 @@ pub use Rattle.numerals.proofs.Unique.{hex-size-unique, write-hex-unique, decim
 pub use Rattle.crc64.proofs.Unique.{table-unique, swap-bytes-unique, fold-over-unique, fold-unique}
 pub use Rattle.guid.proofs.Unique.{Guid-from-parts-unique, Guid-parts-unique, Guid-from-halves-unique, Guid-halves-unique, Guid-is-null-unique, Guid-from-bytes-unique, Guid-write-unique, words-outcome-unique}
 pub use Rattle.guid_text.proofs.Unique.{text-size-unique, print-unique, parse-unique, printed-outcome-unique, parsed-outcome-unique}
-pub use Rattle.packet.proofs.Unique.{type-number-unique, type-of-unique, refused-unique, has-variable-header-unique, contains-unique, is-null-unique, is-outside-unique, part-unique, part-checksum-unique}
+pub use Rattle.packet.proofs.Unique.{type-number-unique, type-of-unique, refused-unique, is-retired-unique, has-variable-header-unique, contains-unique, is-null-unique, is-outside-unique, part-unique, part-checksum-unique}
 pub use Rattle.packet_read.proofs.Unique.{decode-with-unique, decode-unique, outcome-unique as decoded-outcome-unique}
 pub use Rattle.packet_check.proofs.Unique.{validate-unique, encoded-size-unique as packet-encoded-size-unique, validated-outcome-unique, measured-outcome-unique}
 pub use Rattle.packet_write.proofs.Unique.{encode-unique, outcome-unique as encoded-outcome-unique}

@@ -146,11 +146,11 @@ lends s after n i (bytes b) small is nulls others =
 
 -- What `encode` wrote, `decode_with` answers and `part` lends.
 pub written-is-lent : WrittenIsLent
-written-is-lent type flags id area table out n after tail limits lent r filled flags-fit id-fits told roomy held read =
+written-is-lent mode type flags id area table out n after tail limits lent r filled flags-fit id-fits told roomy held read =
     let s : List ℕ = take n after ++ tail in
     let p : Packet = record { «packet_type» = type; flags = flags; id = id; parts = length (partsOf area table) } in
-    let back = written-reads type flags id area table out n after told tail limits flags-fit id-fits held in
-    let ok : Valid _ = given-valid type flags id area table out n after flags-fit id-fits told in
+    let back = written-reads mode type flags id area table out n after told tail limits flags-fit id-fits held in
+    let ok : Valid _ = given-valid mode type flags id area table out n after flags-fit id-fits told in
     let same : r ≡ Read p n = paper-injective r (Read p n) (read .answer ∙ back .0) in
     let read-so : Decodes s limits lent (Read p n) filled = rw same at read in
     let parts = parts-are-lent s limits lent p n filled roomy read-so in (
@@ -163,13 +163,13 @@ written-is-lent type flags id area table out n after tail limits lent r filled f
 
 -- Each strict prefix of what `encode` wrote is answered by need-more, and the table is left as it was.
 pub prefix-asks-for-more : PrefixAsksForMore
-prefix-asks-for-more type flags id area table out n after limits lent r filled k flags-fit id-fits told held short read =
+prefix-asks-for-more mode type flags id area table out n after limits lent r filled k flags-fit id-fits told held short read =
     let m = given type flags id area table in
-    let ok : Valid m = given-valid type flags id area table out n after flags-fit id-fits told in
+    let ok : Valid m = given-valid mode type flags id area table out n after flags-fit id-fits told in
     let front : take k after ≡ take k (wire m) =
-    sym (take-take k n after (omega arith)) ∙ ap (take k) (written-bytes type flags id area table out n after told) in
+    sym (take-take k n after (omega arith)) ∙ ap (take k) (written-bytes mode type flags id area table out n after told) in
     let waits : reading (take k after) limits ≡ more =
     ap (λ (s : List ℕ). reading s limits) front
-    ∙ strict-prefix m limits k ok held (rw (written-size type flags id area table out n after told) short) in
+    ∙ strict-prefix m limits k ok held (rw (written-size mode type flags id area table out n after told) short) in
     let same : r ≡ More = paper-injective r More (read .answer ∙ waits) in
     (same, holds-kept (reading (take k after) limits) (entries (take k after)) lent filled (rw waits tt) (read .tables))

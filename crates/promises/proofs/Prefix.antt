@@ -57,6 +57,7 @@ module _ (s : List ℕ) (n : ℕ) (limits : Limits) (k : ℕ) (there : k ≤ len
         there = le-ltb (length p) fixedHeaderSize (rw length-is long);
         signed = rw (word-take 4 k s 0 (omega arith)) (before .signed);
         known = rw same-type (before .known);
+        current = rw same-type (before .current);
         guarded = rw (word-take 8 k s 28 (omega arith), take-take 28 k s (omega arith)) (before .guarded);
         few = before .few;
       }
@@ -124,7 +125,7 @@ module _ (m : Message) (limits : Limits) (k : ℕ) (ok : Valid m) (held : Held m
           absurd (omega arith)
       by-header true e =
           more-is whole-packet (count whole-packet) limits k (omega (arith, all-there)) refl
-          (before-of whole-packet limits (fixed-ok m [] ok limits (held .counted))) long
+          (before-of whole-packet limits (fixed-ok m [] ok limits (held .current) (held .counted))) long
           (rw (is-type m [] ok, is-count m [] ok) e)
           (behind-of whole-packet limits (count whole-packet) (rw (is-count m [] ok) (variable-ok m [] ok e limits (held .within e) (held .roomy))))
           (rw (is-count m [] ok, is-whole m [] ok e) h)

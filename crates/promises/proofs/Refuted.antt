@@ -18,10 +18,11 @@ use Rattle.packet.specs.Layout as Layout
 use Rattle.packet.specs.Layout.{packetSignature}
 use Rattle.packet_read.specs.Reading as Reading
 use Rattle.packet_read.specs.Reading.{limited, reading}
+use Rattle.packet.specs.declared.Mode.the-variants.{Archive}
 use Rattle.packet.specs.Entries as Entries
 use Rattle.guid.specs.Guid.{guidOf, wireBytes}
 use Rattle.packet.specs.declared.PacketType.the-variants.{Message as Plain, Ack}
-use Rattle.packet.specs.declared.PacketError.the-variants.{Signature}
+use Rattle.packet.specs.declared.PacketError.the-variants.{Signature, RetiredType}
 use Rattle.packet.specs.declared.Packet.{Packet}
 use Rattle.packet_read.specs.declared.Decoded.the-variants.{Read, Refused}
 use Rattle.packet_read.specs.Paper.{paper}
@@ -33,7 +34,7 @@ use Rattle.promises.specs.BitRuns.{bits, Unseen}
 use Rattle.promises.specs.Damage.{Stretch, fixedHeader, Inside, HitInBytes, NamedWhere, nothing, DamageHappens}
 use Rattle.promises.specs.RoundTrip.{Message, Valid, Held}
 use Rattle.promises.specs.Refuted as Wrong
-use Rattle.promises.specs.Refuted.{HitOf65, SixtyFiveAreNamed, HitLowFirst, LowFirstIsNamed, HitUnguarded, UnguardedIsNamed, HitPast, PastIsNamed, UnseenIn64, SixtyFourUnseen, EightBytesUnseen, AlwaysBy5, PrefixOrWhole, RoundTripUnderAnyLimit, CeilingAlone, AcceptanceLeavesTables}
+use Rattle.promises.specs.Refuted.{HitOf65, SixtyFiveAreNamed, HitLowFirst, LowFirstIsNamed, HitUnguarded, UnguardedIsNamed, HitPast, PastIsNamed, UnseenIn64, SixtyFourUnseen, EightBytesUnseen, AlwaysBy5, NamedWithout24, PrefixOrWhole, RoundTripUnderAnyLimit, CeilingAlone, AcceptanceLeavesTables}
 use Rattle.promises.proofs.BitRuns.{bits-64-seen, length-bits}
 use Rattle.promises.proofs.Damage.{not-taken, bytes-hit}
 
@@ -108,6 +109,10 @@ unguardedAltered = header packetSignature 1 one 0 ++ bytesOf 8 0
 abbrev unsigned : List ℕ
 unsigned = header 0 1 zeros 0 ++ bytesOf 8 (checksum (header packetSignature 1 zeros 0))
 
+-- with another type
+abbrev retyped : List ℕ
+retyped = header packetSignature 2 zeros 0 ++ bytesOf 8 (checksum (header packetSignature 1 zeros 0))
+
 sent-read : Decodes sent nothing [] (Read (ack 0 0 0 0) 36) []
 unfolding sealed Word.bytesOf Word.word Decide.firstFrom Polynomial.step Polynomial.steps Polynomial.foldByte Polynomial.fold Layout.takenBefore Reading.fixedLines Reading.countLines Reading.variableLines Reading.sizeLines Reading.partLines Reading.roomLines Reading.order Reading.reading Entries.entriesFrom
 sent-read = record { answer = refl; tables = refl }
@@ -131,6 +136,10 @@ unguarded-altered-read = record { answer = refl; tables = refl }
 unsigned-refused : Decodes unsigned nothing [] (Refused (Signature 0) 0) []
 unfolding sealed Word.bytesOf Word.word Decide.firstFrom Polynomial.step Polynomial.steps Polynomial.foldByte Polynomial.fold Layout.takenBefore Reading.fixedLines Reading.countLines Reading.variableLines Reading.sizeLines Reading.partLines Reading.roomLines Reading.order Reading.reading Entries.entriesFrom
 unsigned-refused = record { answer = refl; tables = refl }
+
+retyped-refused : Decodes retyped nothing [] (Refused (RetiredType 2) 0) []
+unfolding sealed Word.bytesOf Word.word Decide.firstFrom Polynomial.step Polynomial.steps Polynomial.foldByte Polynomial.fold Layout.takenBefore Reading.fixedLines Reading.countLines Reading.variableLines Reading.sizeLines Reading.partLines Reading.roomLines Reading.order Reading.reading Entries.entriesFrom
+retyped-refused = record { answer = refl; tables = refl }
 
 -- two strings that differ at one place differ
 other : (s t : List ℕ) (i a b : ℕ) → getD s i 0 ≡ a → getD t i 0 ≡ b → a < b → s ≡ t → ⊥
@@ -164,7 +173,7 @@ damage-happens =
 unnamed : (Altered : List ℕ → List ℕ → Stretch → ℕ → ℕ → Type 0) (s t : List ℕ) (p q : Packet) (part : Stretch) (at run : ℕ)
     → Decodes s nothing [] (Read p 36) [] → Decodes t nothing [] (Read q 36) [] → Altered s t part at run → NamedWhere Altered → ⊥
 unnamed Altered s t p q part at run whole damaged hit wrong =
-    not-taken t part (paper (Read q 36)) (wrong s t nothing [] [] p 36 [] (Read q 36) [] part at run whole hit damaged .0)
+    not-taken t (nothing .mode) part (paper (Read q 36)) (wrong s t nothing [] [] p 36 [] (Read q 36) [] part at run whole hit damaged .0)
 
 pub sixty-five-are-not-named : SixtyFiveAreNamed → ⊥
 unfolding sealed Word.bytesOf Word.word Polynomial.step Polynomial.steps Polynomial.foldByte Polynomial.fold BitRuns.bits BitRuns.bitsOf
@@ -273,6 +282,26 @@ not-always-by-5 wrong =
     let z : _≡_ {A = ℕ} 3 7 = ap kind named in
     omega arith
 
+-- the Ack's type made that of an SslAck
+pub not-named-without-24 : NamedWithout24 → ⊥
+unfolding sealed Word.bytesOf Word.word Polynomial.step Polynomial.steps Polynomial.foldByte Polynomial.fold
+not-named-without-24 wrong =
+    let named = wrong sent retyped nothing [] (ack 0 0 0 0) 36 [] (Refused (RetiredType 2) 0) [] 32 8 sent-read (bytes-hit sent retyped fixedHeader 4 1 (record {
+      bytes-before = small sent refl;
+      bytes-after = small retyped refl;
+      few = omega arith;
+      guarded = λ e. omega arith;
+      inside =
+          record {
+            has = tt;
+            starts = omega arith;
+            ends = omega arith;
+            damaged = record { same-length = refl; same-front = refl; same-rest = refl; differ = other sent retyped 4 1 2 refl refl (omega arith) };
+          };
+    })) retyped-refused in
+    let z : _≡_ {A = ℕ} 26 7 = ap kind named in
+    omega arith
+
 -- a packet without parts
 abbrev bare : ℕ → Message
 bare kind = record { type = kind; flags = 0; id = guidOf 0 0 0 0; parts = [] }
@@ -290,26 +319,26 @@ bare-valid kind known =
 pub whole-is-no-prefix : PrefixOrWhole → ⊥
 unfolding Wire.sealed Wire.packetBytes Wire.fixedFields wireBytes Wire.packetSize Word.bytesOf Word.word Decide.firstFrom Polynomial.step Polynomial.steps Polynomial.foldByte Polynomial.fold Layout.takenBefore Reading.fixedLines Reading.countLines Reading.variableLines Reading.sizeLines Reading.partLines Reading.roomLines Reading.order Reading.reading Entries.entriesFrom
 whole-is-no-prefix wrong =
-    let held : Held (bare 1) (limited 36 0 []) = record { counted = omega arith; within = λ e. omega arith; roomy = omega arith } in
-    let z : _≡_ {A = ℕ} 0 1 = ap kind (wrong (bare 1) (limited 36 0 []) 36 (bare-valid 1 (omega arith)) held (omega arith)) in
+    let held : Held (bare 1) (limited Archive 36 0 []) = record { current = refl; counted = omega arith; within = λ e. omega arith; roomy = omega arith } in
+    let z : _≡_ {A = ℕ} 0 1 = ap kind (wrong (bare 1) (limited Archive 36 0 []) 36 (bare-valid 1 (omega arith)) held (omega arith)) in
     omega arith
 
 pub no-round-trip-under-any-limit : RoundTripUnderAnyLimit → ⊥
 unfolding Wire.sealed Wire.packetBytes Wire.fixedFields wireBytes Wire.body Wire.sizes Wire.sums Wire.contents Word.bytesOf Word.word Decide.firstFrom Polynomial.step Polynomial.steps Polynomial.foldByte Polynomial.fold Layout.takenBefore Reading.fixedLines Reading.countLines Reading.variableLines Reading.sizeLines Reading.partLines Reading.roomLines Reading.order Reading.reading Entries.entriesFrom
 no-round-trip-under-any-limit wrong =
-    wrong (bare 0) (limited 43 0 []) (bare-valid 0 (omega arith)) (omega arith) (omega arith) (44 ∷ 43 ∷ []) refl
+    wrong (bare 0) (limited Archive 43 0 []) (bare-valid 0 (omega arith)) (omega arith) (omega arith) (44 ∷ 43 ∷ []) refl
 
 pub not-the-ceiling-alone : CeilingAlone → ⊥
 unfolding Word.bytesOf Word.word Decide.firstFrom Polynomial.step Polynomial.steps Polynomial.foldByte Polynomial.fold Layout.takenBefore Reading.fixedLines Reading.countLines Reading.variableLines Reading.sizeLines Reading.partLines Reading.roomLines Reading.order Reading.reading Entries.entriesFrom
 not-the-ceiling-alone wrong =
-    wrong (header packetSignature 1 zeros 0x1000_0001 ++ bytesOf 8 0) (limited 0 0x1000_0001 []) (omega arith) (0x1000_0001 ∷ []) refl
+    wrong (header packetSignature 1 zeros 0x1000_0001 ++ bytesOf 8 0) (limited Archive 0 0x1000_0001 []) (omega arith) (0x1000_0001 ∷ []) refl
 
 -- a Message with one empty part, and a table that held other words
 pub acceptance-does-not-leave-tables : AcceptanceLeavesTables → ⊥
 unfolding Word.bytesOf Word.word Decide.firstFrom Polynomial.step Polynomial.steps Polynomial.foldByte Polynomial.fold Layout.takenBefore Reading.fixedLines Reading.countLines Reading.variableLines Reading.sizeLines Reading.partLines Reading.roomLines Reading.order Reading.reading Entries.entriesFrom
 acceptance-does-not-leave-tables wrong =
     let packet : Packet = record { «packet_type» = Plain; flags = record { 0 = 0 }; id = record { w0 = 0; w1 = 0; w2 = 0; w3 = 0 }; parts = 1 } in
-    let left = wrong (header packetSignature 0 zeros 1 ++ bytesOf 8 0 ++ bytesOf 4 0 ++ bytesOf 8 0 ++ bytesOf 8 0) (limited 56 1 (7 ∷ 7 ∷ 7 ∷ [])) (7 ∷ 7 ∷ 7 ∷ []) (Read packet 56) (56 ∷ 0 ∷ 0 ∷ [])
+    let left = wrong (header packetSignature 0 zeros 1 ++ bytesOf 8 0 ++ bytesOf 4 0 ++ bytesOf 8 0 ++ bytesOf 8 0) (limited Archive 56 1 (7 ∷ 7 ∷ 7 ∷ [])) (7 ∷ 7 ∷ 7 ∷ []) (Read packet 56) (56 ∷ 0 ∷ 0 ∷ [])
     (record { answer = refl; tables = refl }) in
     let z : _≡_ {A = ℕ} 56 7 = ap (λ (l : List ℕ). getD l 0 0) left in
     omega arith

@@ -14,6 +14,7 @@ use Rattle.words.specs.Word.{word, bytesOf}
 use Rattle.words.specs.Decide.{pick, _=?_}
 use Rattle.crc64.specs.Polynomial.{checksum}
 use Rattle.guid.specs.Guid.{wireBytes}
+use Rattle.packet.specs.Mode.{isRetired}
 use Rattle.packet_read.specs.Reading.{Limits}
 use Rattle.packet.specs.Layout.{packetSignature, nullSize, largestPart, hasVariableHeader, headers, signature, type, flags, count, fixedSum, fields, size, taken, takenBefore, partSum, variable, variableSum, whole, part}
 use Rattle.packet.specs.Wire.{Part, null, bytes, sizeWord, sumWord, content, sizes, sums, contents, sealed, fixedFields, body, packetBytes, packetSize}
@@ -223,12 +224,13 @@ module _ (m : Message) (tail : List ℕ) where
           sum-is null some = absurd (some refl)
           sum-is (bytes b) some = refl
 
-    pub fixed-ok : (limits : Limits) → n ≤ limits .parts → FixedHeader s limits
-    fixed-ok limits counted =
+    pub fixed-ok : (limits : Limits) → isRetired (limits .mode) (m .type) ≡ false → n ≤ limits .parts → FixedHeader s limits
+    fixed-ok limits current counted =
         record {
           there = rw (by-header, length-append (sealed fixed) rest, header-long) (omega arith);
           signed = is-signature;
           known = rw is-type (ok .known);
+          current = rw is-type current;
           guarded = inr (is-fixed-sum ∙ ap checksum (sym is-fixed));
           few = rw is-count (le-min (ok .few) counted);
         }
@@ -238,7 +240,7 @@ module _ (m : Message) (tail : List ℕ) where
 
     acceptable : (limits : Limits) → Held m limits → Acceptable s limits
     acceptable limits held = (
-      fixed-ok limits (held .counted),
+      fixed-ok limits (held .current) (held .counted),
       (λ h. let there : hasVariableHeader (m .type) n ≡ true = sym same-header ∙ h in
           rw is-count (variable-ok there limits (held .within there) (held .roomy))),
     )

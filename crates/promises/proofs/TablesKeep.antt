@@ -44,8 +44,8 @@ packet-tables-keep s limits table r after told = (
 
 -- A packet that is not written leaves the output.
 pub packet-output-keeps : PacketOutputKeeps
-packet-output-keeps type flags id area table out error after told =
-    holds-kept (writing (typeNumber type) area table (length out)) (bytesFor type flags id area table) out after (rw (← told .answer) tt) (told .output)
+packet-output-keeps mode type flags id area table out error after told =
+    holds-kept (writing mode (typeNumber type) area table (length out)) (bytesFor type flags id area table) out after (rw (← told .answer) tt) (told .output)
 
 -- A rowset that is refused leaves both tables.
 pub rowset-tables-keep : RowsetTablesKeep

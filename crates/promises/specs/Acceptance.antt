@@ -1,7 +1,7 @@
 -- What the packet reader accepts is exactly this: a front that the layout describes, each checksum word 0 or its
 -- stretch's checksum, within the limits and the room. Assumes nothing.
 use Prim.Native.Nat.{ℕ, _≤_, _<_, min}
-use mathlib.Core.Bool.{true}
+use mathlib.Core.Bool.{true, false}
 use mathlib.Core.List.{List}
 use mathlib.Core.Path.{_≡_}
 use mathlib.Core.Logic.{_⊎_}
@@ -10,6 +10,7 @@ use Rattle.words.specs.Answer.{accepted}
 use Rattle.words.specs.Decide.{pick}
 use Rattle.crc64.specs.Polynomial.{checksum}
 use Rattle.packet.specs.Layout.{packetSignature, nullSize, largestPart, mostParts, lastType, fixedHeaderSize, hasVariableHeader, headers, signature, type, count, fixedSum, fixedFields, fields, size, partSum, variable, variableSum, whole, part}
+use Rattle.packet.specs.Mode.{isRetired}
 use Rattle.packet_read.specs.Reading.{Limits, reading}
 
 -- a checksum word that is 0, or its stretch's checksum
@@ -21,6 +22,7 @@ pub record FixedHeader (s : List ℕ) (limits : Limits) : Type 0 where
   pub there : fixedHeaderSize ≤ length s
   pub signed : signature s ≡ packetSignature
   pub known : type s ≤ lastType
+  pub current : isRetired (limits .mode) (type s) ≡ false
   pub guarded : Guards (fixedSum s) (fixedFields s)
   pub few : count s ≤ min mostParts (limits .parts)
 

@@ -15,6 +15,9 @@ use Rattle.crc64.specs.Polynomial.{checksum}
 use Rattle.crc64.specs.Damage.{Damaged}
 use Rattle.packet.specs.Layout.{packetSignature, nullSize, lastType, fixedFieldsSize, fixedHeaderSize, partHeaderSize, hasVariableHeader, signature, type, count, fixedSum, fixedFields, size, taken, partSum, variable, variableSum, start, part}
 use Rattle.packet.specs.declared.Packet.{Packet}
+use Rattle.packet.specs.declared.Mode.{Mode}
+use Rattle.packet.specs.declared.Mode.the-variants.{Live}
+use Rattle.packet.specs.Mode.{isRetired}
 use Rattle.packet_read.specs.declared.Decoded.{Decoded}
 use Rattle.packet_read.specs.declared.Decoded.the-variants.{Read}
 use Rattle.packet_read.specs.Paper.{paper}
@@ -52,15 +55,19 @@ module _ (s : List ℕ) where
   stored (partAt i) = partSum s (count s) i
 
   -- an answer to s names the stretch: by its checksum. Document 01's order looks at the signature and at the type
-  -- before it verifies the fixed header, so where the damage made either of them none at all, 1 or 2 names that.
-  abbrev pub Names : Stretch → Answer → Type 0
-  Names fixedHeader a =
+  -- before it verifies the fixed header, so where the damage made either of them none at all, 1 or 2 names that, and in
+  -- live mode 24 names a type that the damage made a retired one (document 02, A12).
+  abbrev pub Names : Mode → Stretch → Answer → Type 0
+  Names mode fixedHeader a =
       a
       ≡ decide
-      (signature s ≠? packetSignature ⇒ refuse 1 (signature s ∷ []) ∷ lastType <? type s ⇒ refuse 2 (type s ∷ []) ∷ [])
+      (signature s ≠? packetSignature ⇒ refuse 1 (signature s ∷ [])
+      ∷ lastType <? type s ⇒ refuse 2 (type s ∷ [])
+      ∷ isRetired mode (type s) ⇒ refuse 24 (type s ∷ [])
+      ∷ [])
       (refuse 5 (fixedSum s ∷ checksum (fixedFields s) ∷ []))
-  Names variableHeader a = a ≡ refuse 6 (variableSum s (count s) ∷ checksum (variable s (count s)) ∷ [])
-  Names (partAt i) a =
+  Names mode variableHeader a = a ≡ refuse 6 (variableSum s (count s) ∷ checksum (variable s (count s)) ∷ [])
+  Names mode (partAt i) a =
       a ≡ refused 7 (i ∷ partSum s (count s) i ∷ checksum (part s (count s) i) ∷ []) (start s (count s) (i + 1))
 
 -- t is s, altered only inside the `run` bytes from `at` on, which lie in one stretch of s
@@ -94,8 +101,8 @@ pub record HitInBytes (s t : List ℕ) (part : Stretch) (at run : ℕ) : Type 0 
   pub guarded : stored s part ≡ 0 → ⊥
   pub inside : Inside s t part at run
 
--- Of the function, by its own statement `Decodes`: an altered packet, read under the same limits, its table's room
--- among them, is answered by a refusal that names the stretch, and the lent table is left as it was.
+-- Of the function, by its own statement `Decodes`: an altered packet, read under the same limits, the mode and its
+-- table's room among them, is answered by a refusal that names the stretch, and the lent table is left as it was.
 abbrev pub NamedWhere : (List ℕ → List ℕ → Stretch → ℕ → ℕ → Type 0) → Type 0
 NamedWhere Altered =
     (s t : List ℕ) (limits : Limits) (table lent : List ℕ) (packet : Packet) (consumed : ℕ) (filled : List ℕ)
@@ -103,7 +110,7 @@ NamedWhere Altered =
     → Decodes s limits table (Read packet consumed) filled
     → Altered s t part at run
     → Decodes t limits lent r after
-    → Names t part (paper r) × (after ≡ lent)
+    → Names t (limits .mode) part (paper r) × (after ≡ lent)
 
 -- whatever the damage: where it is confined to one stretch and changed its checksum, it is named
 abbrev pub ConfinedIsNamed : Type 0
@@ -117,27 +124,27 @@ DamageIsNamed = NamedWhere Hit
 abbrev pub BytesAreNamed : Type 0
 BytesAreNamed = NamedWhere HitInBytes
 
--- of `decode_with` by the limits of its call, under whichever ceiling, where the tables lent have one length
-abbrev pub NamedUnder : ℕ → Type 0
-NamedUnder ceiling =
+-- of `decode_with` by the limits of its call, in either mode and under whichever ceiling, where the tables lent have one length
+abbrev pub NamedUnder : Mode → ℕ → Type 0
+NamedUnder mode ceiling =
     (s t : List ℕ) (limit : ℕ) (table lent : List ℕ) (packet : Packet) (consumed : ℕ) (filled : List ℕ)
     (r : Decoded) (after : List ℕ) (part : Stretch) (at run : ℕ)
     → length table ≡ length lent
-    → Decodes s (limited limit ceiling table) table (Read packet consumed) filled
+    → Decodes s (limited mode limit ceiling table) table (Read packet consumed) filled
     → Hit s t part at run
-    → Decodes t (limited limit ceiling lent) lent r after
-    → Names t part (paper r) × (after ≡ lent)
+    → Decodes t (limited mode limit ceiling lent) lent r after
+    → Names t mode part (paper r) × (after ≡ lent)
 
 abbrev pub DecodeWithNamesDamage : Type 0
-DecodeWithNamesDamage = (ceiling : ℕ) → NamedUnder ceiling
+DecodeWithNamesDamage = (mode : Mode) (ceiling : ℕ) → NamedUnder mode ceiling
 
 -- and of `decode` by its own
 abbrev pub DecodeNamesDamage : Type 0
-DecodeNamesDamage = NamedUnder defaultCeiling
+DecodeNamesDamage = (mode : Mode) → NamedUnder mode defaultCeiling
 
--- the limits of a call that allows no bytes, no parts and lends no table
+-- the limits of a call in live mode that allows no bytes, no parts and lends no table
 abbrev pub nothing : Limits
-nothing = limited 0 0 []
+nothing = limited Live 0 0 []
 
 -- its premises can be met: a packet that is read, and one that a run of damage made of it
 pub record DamageHappens : Type 0 where

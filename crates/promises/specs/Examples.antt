@@ -1,5 +1,6 @@
 -- Document 01's examples that are marked P, in one table: what the definitions answer is what the document says. The
--- two texts of GUIDs that are read are answered as document 02, A5, has it. Assumes nothing.
+-- two texts of GUIDs that are read are answered as document 02, A5, has it. Behind them three of its A12: an SslAck in
+-- each mode, and type 258. Assumes nothing.
 use Prim.Native.Nat.{ℕ, _^_, _-_}
 use mathlib.Core.List.{List, [], _∷_, _++_}
 use mathlib.Core.Path.{_≡_}
@@ -13,6 +14,7 @@ use Rattle.guid_text.specs.declared.Parsed.{Parsed}
 use Rattle.guid_text.specs.Text.{textOf}
 use Rattle.guid_text.specs.Paper.{parsedPaper}
 use Rattle.guid_text.specs.Statement.{Parses}
+use Rattle.packet.specs.declared.Mode.the-variants.{Archive, Live}
 use Rattle.packet_read.specs.Reading.{limited, reading as readingPacket}
 use Rattle.wire.specs.Layout.{rowWords}
 use Rattle.wire_read.specs.Reading.{reading as readingRowset}
@@ -55,6 +57,9 @@ Examples =
     × (rowWords nullRow 1 8 ≡ (2 ^ 64 - 1) ∷ [])
     × (readingRowset emptyRow 1 0 ≡ accepted 0 (1 ∷ 0 ∷ []))
     × (rowWords emptyRow 1 8 ≡ 0 ∷ [])
-    × (readingPacket ack (limited 0 65_536 []) ≡ accepted 36 (1 ∷ 0 ∷ 1 ∷ 2 ∷ 3 ∷ 4 ∷ 0 ∷ []))
-    × (readingPacket (take 35 ack) (limited 0 65_536 []) ≡ more)
-    × (readingPacket message (limited 43 65_536 []) ≡ refuse 8 (44 ∷ 43 ∷ []))
+    × (readingPacket ack (limited Archive 0 65_536 []) ≡ accepted 36 (1 ∷ 0 ∷ 1 ∷ 2 ∷ 3 ∷ 4 ∷ 0 ∷ []))
+    × (readingPacket (take 35 ack) (limited Archive 0 65_536 []) ≡ more)
+    × (readingPacket message (limited Archive 43 65_536 []) ≡ refuse 8 (44 ∷ 43 ∷ []))
+    × (readingPacket (bare 2) (limited Archive 0 65_536 []) ≡ accepted 36 (2 ∷ 0 ∷ 1 ∷ 2 ∷ 3 ∷ 4 ∷ 0 ∷ []))
+    × (readingPacket (bare 2) (limited Live 0 65_536 []) ≡ refuse 24 (2 ∷ []))
+    × (readingPacket (bare 258) (limited Live 0 65_536 []) ≡ refuse 2 (258 ∷ []))

@@ -10,6 +10,7 @@ use Rattle.guid.specs.Guid.{Fitting}
 use Rattle.packet.specs.Layout.{fixedHeaderSize, sizeBytes, checksumBytes, count}
 use Rattle.packet.specs.Entries.{room, offsetAt, sizeAt, sumAt}
 use Rattle.packet.specs.Wire.{null, sumWord, partsOf}
+use Rattle.packet.specs.declared.Mode.{Mode}
 use Rattle.packet.specs.declared.PacketType.{PacketType}
 use Rattle.packet.specs.declared.PacketFlags.{PacketFlags}
 use Rattle.packet.specs.declared.Packet.{Packet}
@@ -37,10 +38,10 @@ SumsAreTold =
 -- a packet written and read back has each part's checksum there, and 0 for a null one
 abbrev pub WrittenIsGuarded : Type 0
 WrittenIsGuarded =
-    (type : PacketType) (flags : PacketFlags) (id : Guid) (area table out : List ℕ) (n : ℕ) (after tail : List ℕ)
-    (limits : Limits) (lent : List ℕ) (r : Decoded) (filled : List ℕ)
+    (mode : Mode) (type : PacketType) (flags : PacketFlags) (id : Guid) (area table out : List ℕ)
+    (n : ℕ) (after tail : List ℕ) (limits : Limits) (lent : List ℕ) (r : Decoded) (filled : List ℕ)
     → flags .0 < 2 ^ 16 → Fitting id
-    → Encodes type flags id area table out (Written n) after
+    → Encodes mode type flags id area table out (Written n) after
     → limits .room ≡ room lent
     → Held (given type flags id area table) limits
     → Decodes (take n after ++ tail) limits lent r filled
@@ -56,8 +57,8 @@ pub record SameStretches (table other : List ℕ) : Type 0 where
 -- the writer, `encoded_size` and `validate` answer alike for such tables
 abbrev pub ThirdWordUnread : Type 0
 ThirdWordUnread =
-    (area table other : List ℕ) → SameStretches table other
-    → ((type : PacketType) (flags : PacketFlags) (id : Guid) (out : List ℕ) (r : Encoded) (after : List ℕ)
-    → Encodes type flags id area table out r after → Encodes type flags id area other out r after)
-    × ((type : PacketType) (r : Measured) → Measures type area table r → Measures type area other r)
-    × ((r : Validated) → Validates area table r → Validates area other r)
+    (mode : Mode) (type : PacketType) (area table other : List ℕ) → SameStretches table other
+    → ((flags : PacketFlags) (id : Guid) (out : List ℕ) (r : Encoded) (after : List ℕ)
+    → Encodes mode type flags id area table out r after → Encodes mode type flags id area other out r after)
+    × ((r : Measured) → Measures mode type area table r → Measures mode type area other r)
+    × ((r : Validated) → Validates mode type area table r → Validates mode type area other r)

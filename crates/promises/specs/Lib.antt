@@ -6,6 +6,7 @@ pub mod Damage
 pub mod Parts
 pub mod Guarded
 pub mod RoundTrip
+pub mod Live
 pub mod RowsetWriter
 pub mod RowsetReader
 pub mod Rowsets

@@ -1,5 +1,5 @@
 -- What the program `list` prints, said of the crate's function by its own statement `Lists`. Document 01: "reads standard input, at
--- most 65,536 bytes (more prints `too long`), with limits 65,536 bytes and 2,048 parts." Assumes nothing.
+-- most 65,536 bytes (more prints `too long`), with limits 65,536 bytes and 2,048 parts." It reads in archive mode. Assumes nothing.
 use Prim.Native.Nat.{ℕ, _+_, _≤_, _<_}
 use mathlib.Core.List.{List, _++_}
 use mathlib.Core.Path.{_≡_}
@@ -7,6 +7,7 @@ use lib.ListN.{length, take, drop, getD}
 use Rattle.words.specs.Answer.{accepted, more, refused}
 use Rattle.words.specs.Text.{text}
 use Rattle.packet.specs.Entries.{entries}
+use Rattle.packet.specs.declared.Mode.the-variants.{Archive}
 use Rattle.packet_read.specs.Reading.{Limits, reading}
 use Rattle.listing.specs.declared.Listed.{Listed}
 use Rattle.listing.specs.declared.Listed.the-variants.{Written}
@@ -15,7 +16,7 @@ use Rattle.listing.specs.Statement.{Lists}
 
 -- the limits of `list`, with room for as many parts
 abbrev pub limits : Limits
-limits = record { bytes = 65_536; parts = 2_048; room = 2_048 }
+limits = record { mode = Archive; bytes = 65_536; parts = 2_048; room = 2_048 }
 
 -- the lines for an input s from an offset on, by what the reader answers to the bytes there
 pub data Printed (s : List ℕ) : ℕ → List ℕ → Type 0 where

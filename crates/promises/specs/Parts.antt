@@ -12,6 +12,7 @@ use Rattle.guid.specs.Guid.{Fitting}
 use Rattle.packet.specs.Layout.{count, size, start}
 use Rattle.packet.specs.Layout.{isNull}
 use Rattle.packet.specs.Entries.{room}
+use Rattle.packet.specs.declared.Mode.{Mode}
 use Rattle.packet.specs.declared.PacketType.{PacketType}
 use Rattle.packet.specs.declared.PacketFlags.{PacketFlags}
 use Rattle.packet.specs.declared.Packet.{Packet}
@@ -60,15 +61,15 @@ Lends s filled i null = (nullAt filled i ≡ true) × LendsFront s filled i
 Lends s filled i (bytes b) =
     (nullAt filled i ≡ false) × ((from : ℕ × ℕ) (r : List ℕ) (at : ℕ × ℕ) → LendsPart s filled i from r at → r ≡ b)
 
--- Writing and reading, of the functions: the bytes that `encode` says it wrote, with any tail, under limits and a table
+-- Writing and reading, of the functions: the bytes that `encode` says it wrote, in whichever mode, with any tail, under limits and a table
 -- that hold them, are answered by `decode_with` with the packet that was given and just its bytes consumed, and its
 -- table lends each part.
 abbrev pub WrittenIsLent : Type 0
 WrittenIsLent =
-    (type : PacketType) (flags : PacketFlags) (id : Guid) (area table out : List ℕ) (n : ℕ) (after tail : List ℕ)
-    (limits : Limits) (lent : List ℕ) (r : Decoded) (filled : List ℕ)
+    (mode : Mode) (type : PacketType) (flags : PacketFlags) (id : Guid) (area table out : List ℕ)
+    (n : ℕ) (after tail : List ℕ) (limits : Limits) (lent : List ℕ) (r : Decoded) (filled : List ℕ)
     → flags .0 < 2 ^ 16 → Fitting id
-    → Encodes type flags id area table out (Written n) after
+    → Encodes mode type flags id area table out (Written n) after
     → limits .room ≡ room lent
     → Held (given type flags id area table) limits
     → Decodes (take n after ++ tail) limits lent r filled
@@ -79,10 +80,10 @@ WrittenIsLent =
 -- and each strict prefix of them by need-more, the table left as it was
 abbrev pub PrefixAsksForMore : Type 0
 PrefixAsksForMore =
-    (type : PacketType) (flags : PacketFlags) (id : Guid) (area table out : List ℕ) (n : ℕ) (after : List ℕ)
-    (limits : Limits) (lent : List ℕ) (r : Decoded) (filled : List ℕ) (k : ℕ)
+    (mode : Mode) (type : PacketType) (flags : PacketFlags) (id : Guid) (area table out : List ℕ)
+    (n : ℕ) (after : List ℕ) (limits : Limits) (lent : List ℕ) (r : Decoded) (filled : List ℕ) (k : ℕ)
     → flags .0 < 2 ^ 16 → Fitting id
-    → Encodes type flags id area table out (Written n) after
+    → Encodes mode type flags id area table out (Written n) after
     → Held (given type flags id area table) limits
     → k < n
     → Decodes (take k after) limits lent r filled

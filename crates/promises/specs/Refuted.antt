@@ -13,12 +13,13 @@ use Rattle.crc64.specs.Statement.{ChecksumIs}
 use Rattle.packet.specs.Layout.{count, fixedSum, fixedFields}
 use Rattle.packet_read.specs.Reading.{Limits, reading}
 use Rattle.packet.specs.declared.Packet.{Packet}
+use Rattle.packet.specs.declared.Mode.the-variants.{Archive}
 use Rattle.packet_read.specs.declared.Decoded.{Decoded}
 use Rattle.packet_read.specs.declared.Decoded.the-variants.{Read}
 use Rattle.packet_read.specs.Paper.{paper}
 use Rattle.packet_read.specs.Statement.{Decodes}
 use Rattle.promises.specs.BitRuns.{bits, Unseen}
-use Rattle.promises.specs.Damage.{Stretch, fixedHeader, Has, from, long, stored, Inside, Hit, NamedWhere}
+use Rattle.promises.specs.Damage.{Stretch, fixedHeader, Has, from, long, stored, Inside, Hit, Names, NamedWhere}
 use Rattle.promises.specs.RoundTrip.{Message, wire, wireSize, Valid, Held}
 
 -- a stretch of s as it stands in s and in t
@@ -106,6 +107,16 @@ AlwaysBy5 =
     → Hit s t fixedHeader at run
     → Decodes t limits table r after
     → paper r ≡ refuse 5 (fixedSum t ∷ checksum (fixedFields t) ∷ [])
+
+-- in live mode too damage to the fixed header is named by 1, 2 or 5 alone
+abbrev pub NamedWithout24 : Type 0
+NamedWithout24 =
+    (s t : List ℕ) (limits : Limits) (table : List ℕ) (packet : Packet) (consumed : ℕ) (filled : List ℕ)
+    (r : Decoded) (after : List ℕ) (at run : ℕ)
+    → Decodes s limits table (Read packet consumed) filled
+    → Hit s t fixedHeader at run
+    → Decodes t limits table r after
+    → Names t Archive fixedHeader (paper r)
 
 -- the whole packet counts as a prefix of itself
 abbrev pub PrefixOrWhole : Type 0

@@ -3,12 +3,13 @@
 -- bytes; each strict prefix gives need-more." Both sides cite one definition of what a packet is on the wire,
 -- `packetBytes`. Assumes nothing.
 use Prim.Native.Nat.{ℕ, _+_, _^_, _≤_, _<_}
-use mathlib.Core.Bool.{true}
+use mathlib.Core.Bool.{true, false}
 use mathlib.Core.List.{List, [], _∷_, _++_}
 use mathlib.Core.Path.{_≡_}
 use lib.ListN.{length, getD, take}
 use Rattle.words.specs.Answer.{accepted, more}
 use Rattle.packet.specs.Layout.{nullSize, largestPart, mostParts, lastType, hasVariableHeader, size, part}
+use Rattle.packet.specs.Mode.{isRetired}
 use Rattle.packet_read.specs.Reading.{Limits, reading}
 use Rattle.packet.specs.declared.PacketType.{PacketType}
 use Rattle.packet.specs.declared.PacketFlags.{PacketFlags}
@@ -43,8 +44,9 @@ pub record Valid (m : Message) : Type 0 where
   pub few : length (m .parts) ≤ mostParts
   pub small : (i : ℕ) → i < length (m .parts) → length (content (getD (m .parts) i null)) ≤ largestPart
 
--- limits and room that hold it
+-- limits and room that hold it: in live mode those of a type that is not retired, 0 or 1
 pub record Held (m : Message) (limits : Limits) : Type 0 where
+  pub current : isRetired (limits .mode) (m .type) ≡ false
   pub counted : length (m .parts) ≤ limits .parts
   pub within : hasVariableHeader (m .type) (length (m .parts)) ≡ true → wireSize m ≤ limits .bytes
   pub roomy : length (m .parts) ≤ limits .room

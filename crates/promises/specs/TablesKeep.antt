@@ -10,6 +10,7 @@ use Rattle.guid.specs.declared.Guid.{Guid}
 use Rattle.guid_text.specs.declared.Printed.the-variants as printed
 use Rattle.guid_text.specs.Statement.{Prints}
 use Rattle.packet_read.specs.declared.Decoded.{Decoded}
+use Rattle.packet.specs.declared.Mode.{Mode}
 use Rattle.packet.specs.declared.PacketType.{PacketType}
 use Rattle.packet.specs.declared.PacketFlags.{PacketFlags}
 use Rattle.packet.specs.declared.PacketError.{PacketError}
@@ -36,9 +37,9 @@ PacketTablesKeep =
 -- the writer of packets
 abbrev pub PacketOutputKeeps : Type 0
 PacketOutputKeeps =
-    (type : PacketType) (flags : PacketFlags) (id : Guid) (area table out : List ℕ)
+    (mode : Mode) (type : PacketType) (flags : PacketFlags) (id : Guid) (area table out : List ℕ)
     (error : PacketError) (after : List ℕ)
-    → Encodes type flags id area table out (packets.Refused error) after → after ≡ out
+    → Encodes mode type flags id area table out (packets.Refused error) after → after ≡ out
 
 -- the reader of rowsets, and its two tables
 abbrev pub RowsetTablesKeep : Type 0

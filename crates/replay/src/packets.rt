@@ -1,4 +1,4 @@
-// The cases of packets.
+// The cases of packets, in archive mode and, by the names that end in `-live`, in live mode.
 use crate::read::bytes_into;
 use crate::read::cut;
 use crate::read::front;
@@ -24,6 +24,11 @@ use face::packets::cablefinch_validate;
 use packet::ENTRY_WORDS;
 use words::outcome::Outcome;
 
+// The modes by the numbers of `face`.
+const ARCHIVE: u64 = 0;
+
+const LIVE: u64 = 1;
+
 fn entries_words(entries: u64) -> usize {
     if entries < 0x1_0000_0000 {
         return ENTRY_WORDS * (entries as usize);
@@ -47,35 +52,49 @@ fn say_packet(parts: &[u64], outcome: Outcome) {
 
 // Part tables of so many words, or all of the table where it is shorter: no case of the list fills that.
 
-fn decode_with_into(input: &[u8], limit: u64, ceiling: u32, parts: &mut [u64], words: usize) {
+fn decode_with_into(
+    mode: u64,
+    input: &[u8],
+    limit: u64,
+    ceiling: u32,
+    parts: &mut [u64],
+    words: usize,
+) {
     let lent = least(words, parts.len());
-    let outcome = cablefinch_decode_with(input, limit, ceiling, &mut parts[..lent]);
+    let outcome = cablefinch_decode_with(mode, input, limit, ceiling, &mut parts[..lent]);
     say_packet(&parts[..lent], outcome);
 }
 
-fn decode_into(input: &[u8], limit: u64, parts: &mut [u64], words: usize) {
+fn decode_into(mode: u64, input: &[u8], limit: u64, parts: &mut [u64], words: usize) {
     let lent = least(words, parts.len());
-    let outcome = cablefinch_decode(input, limit, &mut parts[..lent]);
+    let outcome = cablefinch_decode(mode, input, limit, &mut parts[..lent]);
     say_packet(&parts[..lent], outcome);
 }
 
-fn packet(line: &[u8]) {
+fn packet(mode: u64, line: &[u8]) {
     let mut space = io::buffer();
     let mut parts = table();
     let count = bytes_into(&mut space, word(line, 4));
     let limit = number(word(line, 1));
     let ceiling = (number(word(line, 2)) % 0x1_0000_0000) as u32;
     let words = entries_words(number(word(line, 3)));
-    decode_with_into(cut(&space, 0, count), limit, ceiling, &mut parts, words);
+    decode_with_into(
+        mode,
+        cut(&space, 0, count),
+        limit,
+        ceiling,
+        &mut parts,
+        words,
+    );
 }
 
-fn packet_default(line: &[u8]) {
+fn packet_default(mode: u64, line: &[u8]) {
     let mut space = io::buffer();
     let mut parts = table();
     let count = bytes_into(&mut space, word(line, 3));
     let limit = number(word(line, 1));
     let words = entries_words(number(word(line, 2)));
-    decode_into(cut(&space, 0, count), limit, &mut parts, words);
+    decode_into(mode, cut(&space, 0, count), limit, &mut parts, words);
 }
 
 fn say_part(input: &[u8], parts: &[u64], index: usize) {
@@ -107,21 +126,22 @@ fn contains(line: &[u8]) {
     truth(cablefinch_contains(all, some));
 }
 
-fn validate(line: &[u8]) {
-    let mut space = io::buffer();
-    let mut parts = table();
-    let count = bytes_into(&mut space, word(line, 4));
-    let words = words_into(&mut parts, word(line, 5));
-    say::accepted(cablefinch_validate(cut(&space, 0, count), front(&parts, words)));
-}
-
-fn packet_size(line: &[u8]) {
+fn validate(mode: u64, line: &[u8]) {
     let mut space = io::buffer();
     let mut parts = table();
     let count = bytes_into(&mut space, word(line, 4));
     let words = words_into(&mut parts, word(line, 5));
     let kind = number(word(line, 1));
-    let outcome = cablefinch_encoded_size(kind, cut(&space, 0, count), front(&parts, words));
+    say::accepted(cablefinch_validate(mode, kind, cut(&space, 0, count), front(&parts, words)));
+}
+
+fn packet_size(mode: u64, line: &[u8]) {
+    let mut space = io::buffer();
+    let mut parts = table();
+    let count = bytes_into(&mut space, word(line, 4));
+    let words = words_into(&mut parts, word(line, 5));
+    let kind = number(word(line, 1));
+    let outcome = cablefinch_encoded_size(mode, kind, cut(&space, 0, count), front(&parts, words));
     if say::accepted(outcome) {
         say::number(outcome.count);
     }
@@ -138,36 +158,52 @@ pub(crate) fn say_written(out: &[u8], outcome: Outcome) {
     say::kept_bytes(out, 0);
 }
 
-fn encode_into(line: &[u8], area: &[u8], parts: &[u64], out: &mut [u8]) {
+fn encode_into(mode: u64, line: &[u8], area: &[u8], parts: &[u64], out: &mut [u8]) {
     let wire = id_of(word(line, 3));
     let kind = number(word(line, 1));
     let flags = flags(number(word(line, 2)));
     let room = least(number(word(line, 4)) as usize, out.len());
-    let outcome = cablefinch_encode(kind, flags, &wire, area, parts, &mut out[..room]);
+    let outcome = cablefinch_encode(mode, kind, flags, &wire, area, parts, &mut out[..room]);
     say_written(&out[..room], outcome);
 }
 
-fn packet_write(line: &[u8]) {
+fn packet_write(mode: u64, line: &[u8]) {
     let mut space = io::buffer();
     let mut parts = table();
     let mut out = output();
     let count = bytes_into(&mut space, word(line, 5));
     let words = words_into(&mut parts, word(line, 6));
-    encode_into(line, cut(&space, 0, count), front(&parts, words), &mut out);
+    encode_into(
+        mode,
+        line,
+        cut(&space, 0, count),
+        front(&parts, words),
+        &mut out,
+    );
 }
 
 // Whether the case is one of these.
 pub(crate) fn answered(line: &[u8], kind: &[u8]) -> bool {
     if is(kind, b"packet") {
-        packet(line);
+        packet(ARCHIVE, line);
+    } else if is(kind, b"packet-live") {
+        packet(LIVE, line);
     } else if is(kind, b"packet-default") {
-        packet_default(line);
+        packet_default(ARCHIVE, line);
+    } else if is(kind, b"packet-default-live") {
+        packet_default(LIVE, line);
     } else if is(kind, b"packet-write") {
-        packet_write(line);
+        packet_write(ARCHIVE, line);
+    } else if is(kind, b"packet-write-live") {
+        packet_write(LIVE, line);
     } else if is(kind, b"packet-size") {
-        packet_size(line);
+        packet_size(ARCHIVE, line);
+    } else if is(kind, b"packet-size-live") {
+        packet_size(LIVE, line);
     } else if is(kind, b"validate") {
-        validate(line);
+        validate(ARCHIVE, line);
+    } else if is(kind, b"validate-live") {
+        validate(LIVE, line);
     } else if is(kind, b"part") {
         part(line);
     } else if is(kind, b"contains") {

@@ -117,7 +117,7 @@ pub(crate) fn kept_bytes(buffer: &[u8], from: usize) {
 // How many values a refusal carries, by its number.
 fn carried(refusal: u64) -> u64 {
     match refusal {
-        1..=3 | 10 | 12..=15 => 1,
+        1..=3 | 10 | 12..=15 | 24 => 1,
         4..=6 | 8..=9 | 11 | 16 | 18 => 2,
         _ => 3,
     }

@@ -1,8 +1,8 @@
 //! Reading packets: a probe of the headers, and decoding with a table that is kept or made anew.
 
 use super::{
-    DEFAULT_MAX_PART_COUNT, FIXED_HEADER_SIZE, NULL_PART_SIZE, Packet, PacketError, PacketFlags,
-    PacketType, Parts, Refusal, Repr, WIDTH, range,
+    DEFAULT_MAX_PART_COUNT, FIXED_HEADER_SIZE, Mode, NULL_PART_SIZE, Packet, PacketError,
+    PacketFlags, PacketType, Parts, Refusal, Repr, WIDTH, range,
 };
 use crate::guid::Guid;
 use crate::sys::{self, Outcome};
@@ -31,12 +31,13 @@ pub enum Ready {
 
 /// Looks at the headers at the front of `input`: how many bytes the packet takes, or how many more
 /// are needed at least, or the refusal that [`decode`] gives before it looks at a part.
-pub fn ready(input: &[u8], max_message_size: u64) -> Result<Ready, Refusal> {
-    ready_with(input, max_message_size, DEFAULT_MAX_PART_COUNT)
+pub fn ready(mode: Mode, input: &[u8], max_message_size: u64) -> Result<Ready, Refusal> {
+    ready_with(mode, input, max_message_size, DEFAULT_MAX_PART_COUNT)
 }
 
 /// The same with at most `max_part_count` parts.
 pub fn ready_with(
+    mode: Mode,
     input: &[u8],
     max_message_size: u64,
     max_part_count: u32,
@@ -47,7 +48,13 @@ pub fn ready_with(
     // The library is shown the headers alone and no table, so that no part is summed. All that it
     // has left to say of headers that it accepts is need-more, or 17 where no part has bytes.
     let shown = input.get(..front.headers).unwrap_or(input);
-    let outcome = sys::decode_with(shown, max_message_size, max_part_count, &mut []);
+    let outcome = sys::decode_with(
+        mode as u64,
+        shown,
+        max_message_size,
+        max_part_count,
+        &mut [],
+    );
     match (outcome.kind, outcome.number) {
         (sys::ACCEPTED, _) | (_, 17) => Ok(Ready::Whole(front.headers)),
         (sys::MORE, _) => {
@@ -118,14 +125,16 @@ impl Refusal {
     }
 }
 
-/// Reads packets, and keeps its table of parts from one to the next.
+/// Reads packets, and keeps its table of parts from one to the next. It is made for one mode:
+/// [`Decoder::live`] for a live socket, [`Decoder::archive`] for what was stored.
 ///
-/// The table has 16 bytes for each part of the largest packet that was read, and at most twice that
+/// The table has 24 bytes for each part of the largest packet that was read, and at most twice that
 /// is held: no more than 2 MiB under [`DEFAULT_MAX_PART_COUNT`]. It grows for a packet that is
 /// whole, never on what a header declares. [`Decoder::memory`] says what is held,
 /// [`Decoder::shrink_to`] gives it back.
-#[derive(Debug, Clone, Default)]
+#[derive(Debug, Clone)]
 pub struct Decoder {
+    mode: Mode,
     words: Vec<u64>,
     /// How many parts of the table are those of the last packet.
     parts: usize,
@@ -140,9 +149,19 @@ struct Header {
 }
 
 impl Decoder {
-    /// A decoder without a table yet.
-    pub const fn new() -> Self {
+    /// A decoder for a live peer, without a table yet: it refuses the retired type.
+    pub const fn live() -> Self {
+        Self::of(Mode::Live)
+    }
+
+    /// A decoder for an archive, without a table yet: it reads every type, as the original does.
+    pub const fn archive() -> Self {
+        Self::of(Mode::Archive)
+    }
+
+    const fn of(mode: Mode) -> Self {
         Self {
+            mode,
             words: Vec::new(),
             parts: 0,
         }
@@ -185,7 +204,7 @@ impl Decoder {
         // Where there is no memory for it, 17 says so below.
         let parts = Front::room(input, ceiling, self.words.len() / WIDTH);
         table::grow(&mut self.words, parts.saturating_mul(WIDTH));
-        let outcome = sys::decode_with(input, limit, ceiling, &mut self.words);
+        let outcome = sys::decode_with(self.mode as u64, input, limit, ceiling, &mut self.words);
         match outcome.kind {
             sys::ACCEPTED => {
                 let [.., parts] = outcome.values;
@@ -243,18 +262,23 @@ impl Header {
 
 /// Reads one packet as [`Decoder::decode`] does, with a table of its own: the packet borrows
 /// `input` alone.
-pub fn decode(input: &[u8], max_message_size: u64) -> Result<Option<Decoded<'_>>, Refusal> {
-    decode_with(input, max_message_size, DEFAULT_MAX_PART_COUNT)
+pub fn decode(
+    mode: Mode,
+    input: &[u8],
+    max_message_size: u64,
+) -> Result<Option<Decoded<'_>>, Refusal> {
+    decode_with(mode, input, max_message_size, DEFAULT_MAX_PART_COUNT)
 }
 
 /// Reads one packet as [`Decoder::decode_with`] does, with a table of its own: the packet borrows
 /// `input` alone.
 pub fn decode_with(
+    mode: Mode,
     input: &[u8],
     max_message_size: u64,
     max_part_count: u32,
 ) -> Result<Option<Decoded<'_>>, Refusal> {
-    let mut decoder = Decoder::new();
+    let mut decoder = Decoder::of(mode);
     let header = decoder.read(input, max_message_size, max_part_count)?;
     Ok(header.map(|header| {
         decoder.words.truncate(decoder.parts.saturating_mul(WIDTH));

@@ -2,8 +2,8 @@
 //! are copied into one first; those of a decoded packet are not.
 
 use super::{
-    ENTRY, FIXED_HEADER_SIZE, MAX_PART_COUNT, MAX_PART_SIZE, NULL_CHECKSUM, Packet, PacketError,
-    PacketType, Part, Repr, entry,
+    ENTRY, FIXED_HEADER_SIZE, MAX_PART_COUNT, MAX_PART_SIZE, Mode, NULL_CHECKSUM, Packet,
+    PacketError, PacketType, Part, Repr, entry,
 };
 use crate::sys::{self, Outcome};
 use crate::table;
@@ -76,25 +76,31 @@ impl Pieces {
         Ok((longest, payload))
     }
 
-    /// Whether the parts can be written at all.
+    /// Whether a packet of these parts can be written at all.
     fn validate<'p>(
         &mut self,
+        mode: Mode,
+        packet_type: PacketType,
         parts: impl ExactSizeIterator<Item = Part<'p>>,
     ) -> Result<(), PacketError> {
         let (longest, _) = self.measure(parts)?;
-        accepted(sys::validate(longest, &self.words)).map(|_| ())
+        accepted(checked(mode, packet_type, longest, &self.words)).map(|_| ())
     }
 
     /// Lays the parts one after another into the area, where they do not lie in one stretch already.
     /// A packet that the library would refuse is refused before anything is copied.
     fn lay<'p>(
         &'p mut self,
+        mode: Mode,
         packet_type: PacketType,
         parts: impl ExactSizeIterator<Item = Part<'p>> + Clone,
     ) -> Result<Laid<'p>, PacketError> {
         let (longest, payload) = self.measure(parts.clone())?;
-        if parts.len() > MAX_PART_COUNT as usize || longest.len() > MAX_PART_SIZE as usize {
-            accepted(sys::validate(longest, &self.words))?;
+        if parts.len() > MAX_PART_COUNT as usize
+            || longest.len() > MAX_PART_SIZE as usize
+            || packet_type == PacketType::SslAck
+        {
+            accepted(checked(mode, packet_type, longest, &self.words))?;
         }
         let size = bytes_of(packet_type, parts.len(), payload);
         if payload == longest.len() {
@@ -121,12 +127,12 @@ impl Pieces {
         })
     }
 
-    fn of<'p>(&'p mut self, packet: &'p Packet<'_>) -> Result<Laid<'p>, PacketError> {
+    fn of<'p>(&'p mut self, mode: Mode, packet: &'p Packet<'_>) -> Result<Laid<'p>, PacketError> {
         let Repr::Table { input, words } = &packet.parts.0 else {
-            return self.lay(packet.packet_type, packet.parts.iter());
+            return self.lay(mode, packet.packet_type, packet.parts.iter());
         };
         // Read by the library, so that they lie in one area; how large the packet is, it says.
-        let size = sys::encoded_size(packet.packet_type as u64, input, words);
+        let size = sys::encoded_size(mode as u64, packet.packet_type as u64, input, words);
         Ok(Laid {
             area: input,
             words,
@@ -137,8 +143,9 @@ impl Pieces {
 
 impl Laid<'_> {
     /// Writes the packet to the front of `room`, which has its size.
-    fn write(&self, packet: &Packet<'_>, room: &mut [u8]) -> Result<(), PacketError> {
+    fn write(&self, mode: Mode, packet: &Packet<'_>, room: &mut [u8]) -> Result<(), PacketError> {
         accepted(sys::encode(
+            mode as u64,
             packet.packet_type as u64,
             packet.flags.0,
             &packet.id.0,
@@ -150,6 +157,10 @@ impl Laid<'_> {
     }
 }
 
+fn checked(mode: Mode, packet_type: PacketType, area: &[u8], words: &[u64]) -> Outcome {
+    sys::validate(mode as u64, packet_type as u64, area, words)
+}
+
 fn accepted(outcome: Outcome) -> Result<Outcome, PacketError> {
     match outcome.kind {
         sys::ACCEPTED => Ok(outcome),
@@ -157,18 +168,20 @@ fn accepted(outcome: Outcome) -> Result<Outcome, PacketError> {
     }
 }
 
-/// Whether the packet can be written at all: [`PacketError::TooManyParts`] and
-/// [`PacketError::PartTooLarge`] tell of one that cannot.
-pub fn validate(packet: &Packet<'_>) -> Result<(), PacketError> {
+/// Whether the packet can be written at all: [`PacketError::RetiredType`],
+/// [`PacketError::TooManyParts`] and [`PacketError::PartTooLarge`] tell of one that cannot.
+pub fn validate(mode: Mode, packet: &Packet<'_>) -> Result<(), PacketError> {
     match &packet.parts.0 {
-        Repr::Table { input, words } => accepted(sys::validate(input, words)).map(|_| ()),
-        _ => Pieces::new().validate(packet.parts.iter()),
+        Repr::Table { input, words } => {
+            accepted(checked(mode, packet.packet_type, input, words)).map(|_| ())
+        }
+        _ => Pieces::new().validate(mode, packet.packet_type, packet.parts.iter()),
     }
 }
 
 /// How many bytes [`encode`] appends, or why it refuses.
-pub fn encoded_size(packet: &Packet<'_>) -> Result<usize, PacketError> {
-    validate(packet)?;
+pub fn encoded_size(mode: Mode, packet: &Packet<'_>) -> Result<usize, PacketError> {
+    validate(mode, packet)?;
     Ok(size(packet))
 }
 
@@ -181,20 +194,32 @@ pub fn size(packet: &Packet<'_>) -> usize {
     bytes_of(packet.packet_type, packet.parts.len(), payload)
 }
 
-/// Writes packets, and keeps its tables and its output from one to the next.
+/// Writes packets, and keeps its tables and its output from one to the next. It is made for one mode:
+/// [`Encoder::live`] for a live peer, [`Encoder::archive`] for an archive.
 ///
 /// It holds at most twice what the largest packet took: its bytes, a copy of its parts where they lay
-/// in several places, and 16 bytes for each part. [`Encoder::shrink_to`] gives that back.
-#[derive(Debug, Clone, Default)]
+/// in several places, and 24 bytes for each part. [`Encoder::shrink_to`] gives that back.
+#[derive(Debug, Clone)]
 pub struct Encoder {
+    mode: Mode,
     pieces: Pieces,
     out: Vec<u8>,
 }
 
 impl Encoder {
-    /// An encoder without tables yet.
-    pub const fn new() -> Self {
+    /// An encoder for a live peer, without tables yet: it refuses the retired type.
+    pub const fn live() -> Self {
+        Self::of(Mode::Live)
+    }
+
+    /// An encoder for an archive, without tables yet: it writes every type, as the original does.
+    pub const fn archive() -> Self {
+        Self::of(Mode::Archive)
+    }
+
+    const fn of(mode: Mode) -> Self {
         Self {
+            mode,
             pieces: Pieces::new(),
             out: Vec::new(),
         }
@@ -202,12 +227,12 @@ impl Encoder {
 
     /// The packet's bytes, which lie in the encoder until its next call. All checksums are computed.
     pub fn encode(&mut self, packet: &Packet<'_>) -> Result<&[u8], PacketError> {
-        let laid = self.pieces.of(packet)?;
+        let laid = self.pieces.of(self.mode, packet)?;
         if !table::grow(&mut self.out, laid.size) {
             return Err(PacketError::no_room(laid.size, 1));
         }
         let room = self.out.get_mut(..laid.size).unwrap_or_default();
-        laid.write(packet, room)?;
+        laid.write(self.mode, packet, room)?;
         Ok(room)
     }
 
@@ -236,9 +261,9 @@ impl Encoder {
         packet: &Packet<'_>,
         room: impl FnOnce(usize) -> Option<&'r mut [u8]>,
     ) -> Result<(), PacketError> {
-        let laid = self.pieces.of(packet)?;
+        let laid = self.pieces.of(self.mode, packet)?;
         match room(laid.size) {
-            Some(room) => laid.write(packet, room),
+            Some(room) => laid.write(self.mode, packet, room),
             None => Err(PacketError::no_room(laid.size, 1)),
         }
     }
@@ -263,8 +288,8 @@ impl Encoder {
 ///
 /// Parts from several places are first copied into one area; those of a decoded packet are not. An
 /// [`Encoder`] keeps that area for the next packet.
-pub fn encode(packet: &Packet<'_>, out: &mut Vec<u8>) -> Result<(), PacketError> {
-    Encoder::new().encode_into(packet, out)
+pub fn encode(mode: Mode, packet: &Packet<'_>, out: &mut Vec<u8>) -> Result<(), PacketError> {
+    Encoder::of(mode).encode_into(packet, out)
 }
 
 /// The checksum word of a part: that of its bytes, and [`NULL_CHECKSUM`] for a null one.

@@ -10,7 +10,7 @@ pub fn serve(
     mut received: impl FnMut(&Packet<'_>) -> Result<(), Box<dyn Error>>,
 ) -> Result<(), Box<dyn Error>> {
     const LIMIT: u64 = 1 << 26; // the most bytes of a packet that this service takes
-    let mut decoder = Decoder::new();
+    let mut decoder = Decoder::live(); // a live peer's; `Decoder::archive()` reads what was stored
     let mut buffer = Vec::new();
     let mut chunk = vec![0; 1 << 16];
     loop {

@@ -56,8 +56,8 @@ packet-lines-requires c κs = let start = c .before .before .before .before .bef
     let on = goes-on (a .input .now) (a .offset) (a .at) (a .out .now) some (a .parts .now) _ (start .pre .4) (found .0 .0) (found .0 .1 .0) read in
     (omega (arith, on .1, on .2, start .pre), parts-held (a .input .now) (a .offset) (a .at) (a .out .now) some (a .parts .now) _ (start .pre .4) (found .0 .0) (found .0 .1 .0) read)
 
-add-t33 : tie.Need-add-t33
-add-t33 c = let start = c .before .before .before .before .before .before .before .before .before .before .before .before .before .before .before .before .before in
+add-t34 : tie.Need-add-t34
+add-t34 c = let start = c .before .before .before .before .before .before .before .before .before .before .before .before .before .before .before .before .before in
     let a = start .args in
     let some = c .before .before .before .before .before .before .before .before .before .before .before .before .before .if1 .left in
     let found = c .before .before .before .before .before .before .packet .given in
@@ -124,7 +124,7 @@ step-spec =
     refused-line-requires
     enum-known-packet
     packet-lines-requires
-    add-t33
+    add-t34
     same-length-2
     same-length-3
     returns-2

@@ -85,6 +85,15 @@ enum-known-error-10 c = search needs
 refusal-requires-10 : tie.Need-refusal-requires-10
 refusal-requires-10 c κs = search needs
 
+enum-known-error-11 : tie.Need-enum-known-error-11
+enum-known-error-11 c = search needs
+
+cast-refusal-5 : tie.Need-cast-refusal-5
+cast-refusal-5 c = search needs
+
+refusal-requires-11 : tie.Need-refusal-requires-11
+refusal-requires-11 c κs = search needs
+
 returns : tie.Need-returns
 returns c =
     case (λ (e : PacketError). refusal e (c .before .before .before .before .args .consumed)) (c .before .before .error .given .1) (c .refusal .ensures)
@@ -129,6 +138,10 @@ returns-10 : tie.Need-returns-10
 returns-10 c =
     case (λ (e : PacketError). refusal e (c .before .before .before .before .args .consumed)) (c .before .before .error10 .given .1) (c .refusal10 .ensures)
 
+returns-11 : tie.Need-returns-11
+returns-11 c =
+    case (λ (e : PacketError). refusal e (c .before .before .before .before .args .consumed)) (c .before .before .error11 .given .1) (c .refusal11 .ensures)
+
 pub refused-spec : {M : Type 1} → statement M
 refused-spec =
     tie.close
@@ -158,6 +171,9 @@ refused-spec =
     refusal-requires-9
     enum-known-error-10
     refusal-requires-10
+    enum-known-error-11
+    cast-refusal-5
+    refusal-requires-11
     returns
     returns-2
     returns-3
@@ -167,4 +183,5 @@ refused-spec =
     returns-7
     returns-8
     returns-9
-    returns-10)
+    returns-10
+    returns-11)

@@ -17,18 +17,18 @@ enum-told c = search needs
 size-requires : tie.Need-size-requires
 size-requires c κs =
     let start = c .before .before .before .before .before .args in
-    let good = validated (start .area .now) (start .parts .now) (rw (c .enum-told .given .1) at (c .before .before .validate .ensures)) in
+    let good = validated (start .mode) (typeNumber (start .packet-type)) (start .area .now) (start .parts .now) (rw (c .enum-told .given .1) at (c .before .before .validate .ensures)) .0 in
     (good .few, good .small)
 
 returns : tie.Need-returns
 returns c =
     let start = c .before .before .before .before .before .before .args in
-    sizing-refuses (start .area .now) (start .parts .now) (typeNumber (start .packet-type)) (c .before .error .given .0 .0) (rw (c .before .error .given .1) at (c .before .before .before .validate .ensures))
+    sizing-refuses (start .mode) (typeNumber (start .packet-type)) (start .area .now) (start .parts .now) (c .before .error .given .0 .0) (rw (c .before .error .given .1) at (c .before .before .before .validate .ensures))
 
 returns-2 : tie.Need-returns-2
 returns-2 c =
     let start = c .before .before .before .before .before .before .args in
-    sizing-passes (start .area .now) (start .parts .now) (typeNumber (start .packet-type)) (rw (c .before .enum-told .given .1) at (c .before .before .before .validate .ensures)) (c .size .ensures)
+    sizing-passes (start .mode) (typeNumber (start .packet-type)) (start .area .now) (start .parts .now) (rw (c .before .enum-told .given .1) at (c .before .before .before .validate .ensures)) (c .size .ensures)
 
 pub encoded-size-spec : {M : Type 1} → statement M
 encoded-size-spec =

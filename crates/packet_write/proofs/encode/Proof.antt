@@ -22,14 +22,14 @@ returns : tie.Need-returns
 returns c =
     let start = c .before .before .before .before .before .before .before .before .args in
     let told = rw (c .before .before .needed .given .1) at (c .before .before .before .before .encoded-size .ensures) in
-    encodes (writing-short (typeNumber (start .packet-type)) (start .area .now) (start .parts .now) (length (start .out .now)) told (c .if1 .taken)) refl
+    encodes (writing-short (start .mode) (typeNumber (start .packet-type)) (start .area .now) (start .parts .now) (length (start .out .now)) told (c .if1 .taken)) refl
 
 write-packet-requires : tie.Need-write-packet-requires
 write-packet-requires c κs =
     let start = c .before .before .before .before .before .before .before .before .before .args in
     let told = rw (c .before .before .before .needed .given .1) at (c .before .before .before .before .before .encoded-size .ensures) in (
-      sized (start .area .now) (start .parts .now) (typeNumber (start .packet-type)) told .0,
-      packet-fits (typeNumber (start .packet-type)) (start .area .now) (start .parts .now) (length (start .out .now)) told (start .flags .0) (start .id) (c .before .if1 .left),
+      sized (start .mode) (typeNumber (start .packet-type)) (start .area .now) (start .parts .now) told .0,
+      packet-fits (start .mode) (typeNumber (start .packet-type)) (start .area .now) (start .parts .now) (length (start .out .now)) told (start .flags .0) (start .id) (c .before .if1 .left),
     )
 
 returns-2 : tie.Need-returns-2
@@ -37,7 +37,7 @@ returns-2 c =
     let start = c .before .before .before .before .before .before .before .args in
     let told = rw (c .before .error .given .1) at (c .before .before .before .encoded-size .ensures) in
     let error = c .before .error .given .0 .0 in
-    encodes (writing-refuses (typeNumber (start .packet-type)) (start .area .now) (start .parts .now) (length (start .out .now)) error told) refl
+    encodes (writing-refuses (start .mode) (typeNumber (start .packet-type)) (start .area .now) (start .parts .now) (length (start .out .now)) error told) refl
 
 same-length : tie.Need-same-length
 same-length c = search needs
@@ -46,7 +46,7 @@ returns-3 : tie.Need-returns-3
 returns-3 c =
     let start = c .before .before .before .before .before .before .before .before .before .before .before .before .args in
     let told = rw (c .before .before .before .before .before .before .needed .given .1) at (c .before .before .before .before .before .before .before .before .encoded-size .ensures) in
-    encodes (writing-accepts (typeNumber (start .packet-type)) (start .area .now) (start .parts .now) (length (start .out .now)) told (c .before .before .before .before .if1 .left)) (c .before .before .write-packet .ensures)
+    encodes (writing-accepts (start .mode) (typeNumber (start .packet-type)) (start .area .now) (start .parts .now) (length (start .out .now)) told (c .before .before .before .before .if1 .left)) (c .before .before .write-packet .ensures)
 
 pub encode-spec : {M : Type 1} → statement M
 encode-spec =

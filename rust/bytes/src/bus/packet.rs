@@ -61,7 +61,7 @@ pub fn decode_with(
     max_message_size: u64,
     max_part_count: u32,
 ) -> Result<Option<Packet>, PacketError> {
-    let mut decoder = lent::Decoder::new();
+    let mut decoder = lent::Decoder::archive();
     let (mut packet, consumed) = match decoder.decode_with(input, max_message_size, max_part_count)
     {
         Ok(None) => return Ok(None),
@@ -105,7 +105,7 @@ pub fn decode_with(
 /// Appends the packet's bytes to `out`, which a refusal leaves as it was. All checksums are computed.
 pub fn encode(packet: &Packet, out: &mut BytesMut) -> Result<(), PacketError> {
     let start = out.len();
-    let written = lent::Encoder::new().encode_to(&packet.lend(), |size| {
+    let written = lent::Encoder::archive().encode_to(&packet.lend(), |size| {
         out.resize(start + size, 0);
         out.get_mut(start..)
     });
@@ -117,7 +117,7 @@ pub fn encode(packet: &Packet, out: &mut BytesMut) -> Result<(), PacketError> {
 
 /// Whether the packet can be written at all.
 pub fn validate(packet: &Packet) -> Result<(), PacketError> {
-    lent::validate(&packet.lend())
+    lent::validate(lent::Mode::Archive, &packet.lend())
 }
 
 /// How many bytes [`encode`] appends. Like the original's, it also answers for a packet that cannot be

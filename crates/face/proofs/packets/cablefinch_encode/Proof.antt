@@ -10,6 +10,8 @@ use Rattle.guid.specs.Guid.{guidAt}
 use Rattle.packet.specs.Layout.{lastType}
 use Rattle.packet.specs.Wire.{packetBytes, partsOf}
 use Rattle.packet_write.specs.Writing.{writing}
+use Rattle.packet.specs.declared.Mode.{Mode}
+use Rattle.face.specs.Statement.{modeOf}
 use Rattle.face.proofs.OutcomeLaws.{typed-refused, typed-known, number-known}
 use borrow.Author.Needs.{needs}
 use Rattle.face.proofs.packets.cablefinch_encode.Statement.{statement}
@@ -30,6 +32,9 @@ enum-known-packet-type c = search needs
 from-bytes-requires : tie.Need-from-bytes-requires
 from-bytes-requires c κs = search needs
 
+mode-of-requires : tie.Need-mode-of-requires
+mode-of-requires c κs = search needs
+
 encode-requires : tie.Need-encode-requires
 encode-requires c κs = search needs
 
@@ -40,7 +45,7 @@ returns : tie.Need-returns
 returns c =
     let a = c .before .before .before .before .before .before .before .before .args in
     let above = rw (c .before .enum-told .given .1) at (c .before .before .before .type-of .ensures) in
-    let so = typed-refused (a .kind) (writing (a .kind) (a .area .now) (a .parts .now) (length (a .out .now))) above in
+    let so = typed-refused (a .kind) (writing (modeOf (a .mode)) (a .kind) (a .area .now) (a .parts .now) (length (a .out .now))) above in
     let bytes = packetBytes (a .kind) (a .flags) (guidAt (a .id .now) 0) (partsOf (a .area .now) (a .parts .now)) in
     (told so (c .unknown-type .ensures), ap (λ (x : Answer). afterwards x bytes (a .out .now)) so)
 
@@ -49,20 +54,25 @@ same-length c = search needs
 
 returns-2 : tie.Need-returns-2
 returns-2 c =
-    let a = c .before .before .before .before .before .before .before .before .before .before .before .before .before .before .args in
+    let call = c .before .before .before in
+    let moded = call .before .before in
+    let identified = moded .before in
+    let typed = identified .before .before .before .before in
+    let a = typed .before .before .before .before .before .args in
+    let mode : Mode = modeOf (a .mode) in
     let area : List ℕ = a .area .now in
     let parts : List ℕ = a .parts .now in
     let out : List ℕ = a .out .now in
-    let found = c .before .before .before .before .before .before .before .packet-type .given in
-    let type = rw (found .1) at (c .before .before .before .before .before .before .before .before .before .type-of .ensures) in
-    let id = c .before .before .before .before .before .from-bytes .ensures in
-    let e = c .before .before .before .encode .ensures in
+    let found = identified .before .before .packet-type .given in
+    let type = rw (found .1) at (typed .type-of .ensures) in
+    let id = identified .from-bytes .ensures in
+    let e = rw (moded .mode-of .ensures) at (call .encode .ensures) in
     let known : a .kind ≤ lastType = number-known (found .0 .0) type in
-    let so = typed-known (a .kind) (writing (a .kind) area parts (length out)) known in (
-      told (e .answer ∙ ap (λ (k : ℕ). writing k area parts (length out)) type ∙ so) (c .outcome .ensures),
+    let so = typed-known (a .kind) (writing mode (a .kind) area parts (length out)) known in (
+      told (e .answer ∙ ap (λ (k : ℕ). writing mode k area parts (length out)) type ∙ so) (c .outcome .ensures),
       e .output
-          ∙ ap (λ (k : ℕ). afterwards (writing k area parts (length out)) (packetBytes k (a .flags) (c .before .before .before .before .before .from-bytes .result) (partsOf area parts)) out) type
-          ∙ ap (λ (g : Guid). afterwards (writing (a .kind) area parts (length out)) (packetBytes (a .kind) (a .flags) g (partsOf area parts)) out) id
+          ∙ ap (λ (k : ℕ). afterwards (writing mode k area parts (length out)) (packetBytes k (a .flags) (identified .from-bytes .result) (partsOf area parts)) out) type
+          ∙ ap (λ (g : Guid). afterwards (writing mode (a .kind) area parts (length out)) (packetBytes (a .kind) (a .flags) g (partsOf area parts)) out) id
           ∙ ap (λ (x : Answer). afterwards x (packetBytes (a .kind) (a .flags) (guidAt (a .id .now) 0) (partsOf area parts)) out) so,
     )
 
@@ -75,6 +85,7 @@ cablefinch-encode-spec =
     unknown-type-requires
     enum-known-packet-type
     from-bytes-requires
+    mode-of-requires
     encode-requires
     outcome-requires
     returns

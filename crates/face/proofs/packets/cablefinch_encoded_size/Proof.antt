@@ -4,6 +4,7 @@ use Prim.Native.Nat.{ℕ, _≤_}
 use Rattle.words.proofs.PaperLaws.{told}
 use Rattle.packet.specs.Layout.{lastType}
 use Rattle.packet_check.specs.Checks.{sizing}
+use Rattle.face.specs.Statement.{modeOf}
 use Rattle.face.proofs.OutcomeLaws.{typed-refused, typed-known, number-known}
 use borrow.Author.Needs.{needs}
 use Rattle.face.proofs.packets.cablefinch_encoded_size.Statement.{statement}
@@ -21,6 +22,9 @@ unknown-type-requires c κs = search needs
 enum-known-packet-type : tie.Need-enum-known-packet-type
 enum-known-packet-type c = search needs
 
+mode-of-requires : tie.Need-mode-of-requires
+mode-of-requires c κs = search needs
+
 encoded-size-requires : tie.Need-encoded-size-requires
 encoded-size-requires c κs = search needs
 
@@ -34,11 +38,14 @@ returns c =
 
 returns-2 : tie.Need-returns-2
 returns-2 c =
-    let a = c .before .before .before .before .before .before .before .before .args in
-    let found = c .before .before .before .packet-type .given in
-    let type = rw (found .1) at (c .before .before .before .before .before .type-of .ensures) in
+    let call = c .before in
+    let typed = call .before .before .before .before .before in
+    let a = typed .before .before .before .args in
+    let found = call .before .before .before .packet-type .given in
+    let type = rw (found .1) at (typed .type-of .ensures) in
+    let e = rw (call .before .mode-of .ensures) at (call .encoded-size .ensures) in
     let known : a .kind ≤ lastType = number-known (found .0 .0) type in
-    told (c .before .encoded-size .ensures ∙ ap (sizing (a .area .now) (a .parts .now)) type ∙ typed-known _ _ known) (c .measured-outcome .ensures)
+    told (e ∙ ap (λ (k : ℕ). sizing (modeOf (a .mode)) k (a .area .now) (a .parts .now)) type ∙ typed-known _ _ known) (c .measured-outcome .ensures)
 
 pub cablefinch-encoded-size-spec : {M : Type 1} → statement M
 cablefinch-encoded-size-spec =
@@ -48,6 +55,7 @@ cablefinch-encoded-size-spec =
     enum-told
     unknown-type-requires
     enum-known-packet-type
+    mode-of-requires
     encoded-size-requires
     measured-outcome-requires
     returns
