@@ -6,6 +6,7 @@ use crate::packets::{Wire, id_of};
 use crate::rowsets::NULL;
 use crate::sums;
 use crate::text::{hex, words};
+use crate::yson;
 
 pub fn list() -> Vec<String> {
     let mut lines = Vec::new();
@@ -19,6 +20,7 @@ pub fn list() -> Vec<String> {
     caps(&mut lines);
     large_reads(&mut lines);
     lengths(&mut lines);
+    yson::corners(&mut lines);
     lines
 }
 
