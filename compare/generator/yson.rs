@@ -353,12 +353,16 @@ fn maps(lines: &mut Vec<String>) {
             }
         }
     }
-    let whole = b"<\x01\x02x=\x06\x05>{\x01\x02a=<\x01\x02y=\x04>[#;\x02\x03;];\x01\x82\x00b={\x01\x00=\x0312345678};\x01\x02a=\x05;}";
+    let whole = [
+        &b"<\x01\x02x=\x06\x05>{\x01\x02a=<\x01\x02y=\x04>[#;\x02\x03;];"[..],
+        b"\x01\x82\x00b={\x01\x00=\x0312345678};\x01\x02a=\x05;}",
+    ]
+    .concat();
     for keep in 0..=whole.len() {
         lines.push(line(3, &whole[..keep]));
     }
     for bit in 0..8 * whole.len() {
-        let mut bytes = whole.to_vec();
+        let mut bytes = whole.clone();
         bytes[bit / 8] ^= 1 << (bit % 8);
         lines.push(line(3, &bytes));
     }

@@ -223,9 +223,9 @@ cablefinch_outcome *cablefinch_read_value(cablefinch_outcome *o, const uint8_t *
 bool cablefinch_is_plain(const uint8_t *input, size_t n);
 
 /* Any and Composite values, which are YSON in its binary form: one node and nothing behind it, with at most
- * CABLEFINCH_MAX_OPEN_BRACKETS of `[`, `{` and `<` open at once. An item of an outer map has CABLEFINCH_ITEM_WORDS words
- * in a table: where its key begins and ends, where its value, attributes included, begins and ends. Any other input is
- * refused with CABLEFINCH_BAD_YSON or CABLEFINCH_TOO_DEEP, whichever is met first, which tells where. */
+ * CABLEFINCH_MAX_OPEN_BRACKETS of `[`, `{` and `<` open at once. Any other input is refused with CABLEFINCH_BAD_YSON or
+ * CABLEFINCH_TOO_DEEP, whichever is met first, which tells where. An item of an outer map has CABLEFINCH_ITEM_WORDS
+ * words in a table: where its key begins and ends, where its value, attributes included, begins and ends. */
 
 /* Whether the input is such a node; values: how many items its outer map has, 0 where it is no map. */
 cablefinch_outcome *cablefinch_yson_check(cablefinch_outcome *o, const uint8_t *input, size_t n);
