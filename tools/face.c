@@ -20,6 +20,8 @@ int main(void) {
     cablefinch_outcome o;
     uint64_t parts[3 * CABLEFINCH_PART_WORDS] = {0, CABLEFINCH_NULL, 0, 4, 0, 0, 2, 3, 0};
     const uint8_t input[5] = {1, 2, 3, 4, 5};
+    const uint8_t map[7] = {'{', 1, 2, 'a', '=', '#', '}'};
+    uint64_t item[CABLEFINCH_ITEM_WORDS] = {0};
 
     expect("version", cablefinch_face_4() == CABLEFINCH_FACE);
     expect("checksum", cablefinch_checksum(NULL, 0) == 0);
@@ -74,6 +76,16 @@ int main(void) {
     cablefinch_read_value(&o, NULL, 0, 0);
     IS(read_value, CABLEFINCH_REFUSED, CABLEFINCH_TRUNCATED);
     expect("is_plain", !cablefinch_is_plain(NULL, 0));
+    cablefinch_yson_check(&o, NULL, 0);
+    IS(yson_check, CABLEFINCH_REFUSED, CABLEFINCH_BAD_YSON);
+    cablefinch_yson_items(&o, NULL, 0, NULL, 0);
+    IS(yson_items, CABLEFINCH_REFUSED, CABLEFINCH_BAD_YSON);
+    cablefinch_yson_items(&o, map, sizeof map, NULL, 0);
+    IS(yson_items, CABLEFINCH_REFUSED, CABLEFINCH_NO_ROOM);
+    expect("yson_items without room", o.values[0] == CABLEFINCH_ITEMS && o.values[1] == 1 && o.values[2] == 0);
+    cablefinch_yson_items(&o, map, sizeof map, item, CABLEFINCH_ITEM_WORDS);
+    IS(yson_items, CABLEFINCH_ACCEPTED, 0);
+    expect("yson_items of one", o.values[0] == 1 && item[0] == 1 && item[1] == 4 && item[2] == 5 && item[3] == 6);
 
     expect("null part", cablefinch_part_state(sizeof input, parts, 6, 0) == CABLEFINCH_PART_NULL);
     expect("empty part", cablefinch_part_state(sizeof input, parts, 6, 1) == CABLEFINCH_PART_HERE);

@@ -101,9 +101,17 @@ struct Table {
 }
 
 impl Table {
-    fn line(&mut self, name: &str, size: usize, bar: Option<f64>, measure: impl FnOnce() -> Times) {
+    /// Measures and prints a line, and answers how many bytes the port takes in a microsecond, which is
+    /// MB/s; not a number where the line is not wanted.
+    fn line(
+        &mut self,
+        name: &str,
+        size: usize,
+        bar: Option<f64>,
+        measure: impl FnOnce() -> Times,
+    ) -> f64 {
         if !self.wanted.is_empty() && !self.wanted.iter().any(|word| name.contains(word.as_str())) {
-            return;
+            return f64::NAN;
         }
         let Times {
             rust,
@@ -127,6 +135,15 @@ impl Table {
             scaled(wrapped),
             shown(rust / wrapped)
         );
+        1e3 * size as f64 / port
+    }
+}
+
+/// A ratio, where both sides have a time.
+fn shown(ratio: f64) -> String {
+    match ratio.is_nan() {
+        true => "-".to_string(),
+        false => format!("{ratio:.2}"),
     }
 }
 
@@ -484,8 +501,9 @@ fn rows(count: usize, null: impl Fn(usize) -> bool) -> Vec<MaybeRow> {
         .collect()
 }
 
-fn rowsets(table: &mut Table) {
-    rowset(
+/// Answers the MB/s at which the large one is read.
+fn rowsets(table: &mut Table) -> f64 {
+    let rate = rowset(
         table,
         "rowset of 100,000 rows of 5 values",
         1,
@@ -497,9 +515,10 @@ fn rowsets(table: &mut Table) {
         100,
         &rows(1_000, |i| i % 3 == 2),
     );
+    rate
 }
 
-fn rowset(table: &mut Table, name: &str, batch: usize, sample: &[MaybeRow]) {
+fn rowset(table: &mut Table, name: &str, batch: usize, sample: &[MaybeRow]) -> f64 {
     let wire = wire::encode_rowset(sample).unwrap();
     let count: usize = sample.iter().flatten().map(Vec::len).sum();
     let mut row_table = vec![0u64; sample.len()];
@@ -507,7 +526,7 @@ fn rowset(table: &mut Table, name: &str, batch: usize, sample: &[MaybeRow]) {
     let outcome = face::decode_rowset(&wire, &mut row_table, &mut value_table);
     assert!(outcome.kind == face::ACCEPTED && outcome.values[1] as usize == count);
     let mut decoder = rowsets_of_crate::Decoder::new();
-    table.line(&format!("{name} decoded"), wire.len(), Some(2.0), || {
+    let rate = table.line(&format!("{name} decoded"), wire.len(), Some(2.0), || {
         Times {
             rust: time(batch, || (), |()| wire::decode_rowset(&wire).unwrap()),
             port: time(
@@ -630,6 +649,7 @@ fn rowset(table: &mut Table, name: &str, batch: usize, sample: &[MaybeRow]) {
             ),
         },
     );
+    rate
 }
 
 /// Something of each value: its column, and its bits or how many bytes it has.
@@ -728,6 +748,64 @@ fn guids(table: &mut Table) {
     });
 }
 
+/// A map of so many items, with keys of 8 and values of 20 bytes.
+fn map(items: usize) -> Vec<u8> {
+    let text = noise(20 * items);
+    let mut bytes = vec![b'{'];
+    for (index, value) in text.chunks_exact(20).enumerate() {
+        bytes.extend([1, 16]);
+        bytes.extend(format!("{index:08}").bytes());
+        bytes.extend([b'=', 1, 40]);
+        bytes.extend(value);
+        bytes.push(b';');
+    }
+    bytes.push(b'}');
+    bytes
+}
+
+/// YSON, of which the Rust has no reader: how the time grows with the items of a map, and that it does
+/// not with the depth at which bytes stand.
+fn notes(table: &mut Table, rowset_rate: f64) {
+    let mut rate = f64::NAN;
+    for (name, items, batch) in [("2,500", 2_500, 40), ("10,000", 10_000, 10)] {
+        let bytes = map(items);
+        let mut words = vec![0u64; 4 * items];
+        let outcome = face::yson_items(&bytes, &mut words);
+        assert!(outcome.kind == face::ACCEPTED && outcome.values[0] as usize == items);
+        let name = format!("YSON map of {name} items");
+        rate = table.line(&format!("{name} checked"), bytes.len(), None, || Times {
+            rust: f64::NAN,
+            port: time(batch, || (), |()| face::yson_check(&bytes)),
+            wrapped: time(batch, || (), |()| cablefinch::yson::check(&bytes).unwrap()),
+        });
+        table.line(&format!("{name} read"), bytes.len(), None, || Times {
+            rust: f64::NAN,
+            port: time(batch, || (), |()| face::yson_items(&bytes, &mut words)),
+            wrapped: time(
+                batch,
+                || (),
+                |()| cablefinch::yson::Yson::read(&bytes).unwrap(),
+            ),
+        });
+    }
+    for (name, depth) in [("1 bracket", 1), ("64 brackets", 64)] {
+        let open = b"[".repeat(depth);
+        let bytes = [open, b"#;".repeat(100_000), b"]".repeat(depth)].concat();
+        assert!(face::yson_check(&bytes).kind == face::ACCEPTED);
+        let name = format!("YSON list of 100,000 entities in {name}, checked");
+        table.line(&name, bytes.len(), None, || Times {
+            rust: f64::NAN,
+            port: time(10, || (), |()| face::yson_check(&bytes)),
+            wrapped: time(10, || (), |()| cablefinch::yson::check(&bytes).unwrap()),
+        });
+    }
+    if !rate.is_nan() && !rowset_rate.is_nan() {
+        println!(
+            "\nfor scale: the map of 10,000 items is checked at {rate:.0} MB/s, the large rowset read at {rowset_rate:.0} MB/s"
+        );
+    }
+}
+
 fn main() {
     let mut table = Table {
         wanted: std::env::args().skip(1).collect(),
@@ -737,8 +815,9 @@ fn main() {
     println!("|---|---|---|---|---|---|---|---|");
     checksums(&mut table);
     packets(&mut table);
-    rowsets(&mut table);
+    let rowset_rate = rowsets(&mut table);
     guids(&mut table);
+    notes(&mut table, rowset_rate);
     let (from, mut to) = (noise(1 << 26), vec![0u8; 1 << 26]);
     let copy = time(1, || (), |()| to.copy_from_slice(black_box(&from)));
     println!(

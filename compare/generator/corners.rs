@@ -6,6 +6,7 @@ use crate::packets::{SIGNATURE, Wire, id_of, part_table};
 use crate::rowsets::NULL;
 use crate::sums;
 use crate::text::{hex, words};
+use crate::yson;
 
 pub fn list() -> Vec<String> {
     let mut lines = Vec::new();
@@ -21,6 +22,7 @@ pub fn list() -> Vec<String> {
     caps(&mut lines);
     large_reads(&mut lines);
     lengths(&mut lines);
+    yson::corners(&mut lines);
     lines
 }
 

@@ -14,6 +14,7 @@ mod sums;
 #[allow(dead_code)]
 #[path = "../text.rs"]
 mod text;
+mod yson;
 
 use std::io::{self, BufWriter, Write};
 use std::process::exit;
@@ -24,7 +25,7 @@ use text::{hex, hex_or_dash};
 type Make = fn(&mut Random) -> String;
 
 /// Each kind with its share of a run.
-const KINDS: [(&str, u64, Make); 26] = [
+const KINDS: [(&str, u64, Make); 27] = [
     ("crc", 30, crc),
     ("checksum", 20, checksum),
     ("fold", 10, sums::fold),
@@ -50,6 +51,7 @@ const KINDS: [(&str, u64, Make); 26] = [
     ("rowset-size", 30, rowsets::size),
     ("value", 60, rowsets::value),
     ("plain", 50, rowsets::plain),
+    ("yson", 60, yson::case),
     ("bad", 2, bad),
 ];
 
@@ -75,6 +77,7 @@ fn main() {
         Some("named") => one_kind(seed, count, damaged::named, &mut output),
         Some("corners") => fixed(corners::list(), count, &mut output),
         Some("huge") => edges::huge(count, &mut output),
+        Some("yson-short") => fixed(yson::short(5), count, &mut output),
         Some(kind) => match KINDS.iter().find(|entry| entry.0 == kind) {
             Some(&(_, _, make)) => one_kind(seed, count, make, &mut output),
             None => usage(),
@@ -91,7 +94,7 @@ fn main() {
 fn usage() -> ! {
     let kinds: Vec<&str> = KINDS.iter().map(|entry| entry.0).collect();
     eprintln!(
-        "usage: cases SEED COUNT [KIND], where KIND is examples, edges, corners, drawn, huge, damaged, named or one of"
+        "usage: cases SEED COUNT [KIND], where KIND is examples, edges, corners, drawn, huge, yson-short, damaged, named or one of"
     );
     eprintln!("  {}", kinds.join(" "));
     exit(2);

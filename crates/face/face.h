@@ -54,6 +54,8 @@ enum {
     CABLEFINCH_BAD_GUID = 16,                 /* where the text goes wrong, why (below) */
     CABLEFINCH_NO_ROOM = 17,                  /* which table (below), how much is needed, how much was given */
     CABLEFINCH_BAD_TABLE = 18,                /* which rule (below), where */
+    CABLEFINCH_BAD_YSON = 20,                 /* where: the failing token's start, or the input's length */
+    CABLEFINCH_TOO_DEEP = 21,                 /* where the bracket stands that would be one too many open */
     CABLEFINCH_RETIRED_TYPE = 24              /* the type found; in live mode alone */
 };
 
@@ -66,9 +68,15 @@ enum {
     CABLEFINCH_GUID_FIELD_COUNT = 4 /* the fields are not four */
 };
 
-/* The first value of CABLEFINCH_NO_ROOM. It is answered only where everything else passes. Parts, rows and values
- * are counted in whole entries, the output in bytes. */
-enum { CABLEFINCH_PARTS = 1, CABLEFINCH_ROWS = 2, CABLEFINCH_VALUES = 3, CABLEFINCH_OUTPUT = 4 };
+/* The first value of CABLEFINCH_NO_ROOM. It is answered only where everything else passes. Parts, rows, values and
+ * items are counted in whole entries, the output in bytes. */
+enum {
+    CABLEFINCH_PARTS = 1,
+    CABLEFINCH_ROWS = 2,
+    CABLEFINCH_VALUES = 3,
+    CABLEFINCH_OUTPUT = 4,
+    CABLEFINCH_ITEMS = 5
+};
 
 /* The first value of CABLEFINCH_BAD_TABLE. */
 enum {
@@ -90,6 +98,8 @@ enum {
 #define CABLEFINCH_NULL UINT64_MAX  /* the length of a null part, the count of a null row */
 #define CABLEFINCH_PART_WORDS 3     /* the words of a part's entry: offset, length, stored checksum */
 #define CABLEFINCH_VALUE_WORDS 5    /* the words of a value's entry, below */
+#define CABLEFINCH_ITEM_WORDS 4     /* the words of an item of a map, below */
+#define CABLEFINCH_MAX_OPEN_BRACKETS 64
 #define CABLEFINCH_GUID_BYTES 16
 #define CABLEFINCH_GUID_TEXT_BYTES 35 /* the longest text of a GUID */
 
@@ -218,6 +228,17 @@ cablefinch_outcome *cablefinch_read_value(cablefinch_outcome *o, const uint8_t *
  * scalars and of Null 0, padding zero, at most CABLEFINCH_MAX_ROWSET_SIZE bytes. Two such inputs with the same rows
  * are the same bytes. */
 bool cablefinch_is_plain(const uint8_t *input, size_t n);
+
+/* Any and Composite values, which are YSON in its binary form: one node and nothing behind it, with at most
+ * CABLEFINCH_MAX_OPEN_BRACKETS of `[`, `{` and `<` open at once. Any other input is refused with CABLEFINCH_BAD_YSON or
+ * CABLEFINCH_TOO_DEEP, whichever is met first, which tells where. An item of an outer map has CABLEFINCH_ITEM_WORDS
+ * words in a table: where its key begins and ends, where its value, attributes included, begins and ends. */
+
+/* Whether the input is such a node; values: how many items its outer map has, 0 where it is no map. */
+cablefinch_outcome *cablefinch_yson_check(cablefinch_outcome *o, const uint8_t *input, size_t n);
+/* The same, with the items in the table, in their order. */
+cablefinch_outcome *cablefinch_yson_items(cablefinch_outcome *o, const uint8_t *input, size_t n, uint64_t *table,
+        size_t words);
 
 #ifdef __cplusplus
 }

@@ -5,6 +5,7 @@
 //!
 //! - [`packet`]: one packet off the front of a buffer, its parts lent from that buffer.
 //! - [`wire`]: the rows of a part, a null row never folded away.
+//! - [`yson`]: whether an Any or a Composite value is well formed, and the items of its outer map.
 //! - [`guid`] and [`crc64`]: the ids and the checksums of both.
 //!
 //! Nothing here panics on any input, and no size that a peer declares is allocated before the
@@ -48,6 +49,7 @@ pub mod packet;
 mod sys;
 mod table;
 pub mod wire;
+pub mod yson;
 
 pub use crc64::{Crc64, checksum};
 pub use guid::Guid;

@@ -15,6 +15,7 @@ pub use write::{Encoder, encode_rowset, encode_rowset_into, encoded_size};
 use crate::packet::MAX_PART_SIZE;
 use crate::sys::Outcome;
 use crate::table::{self, count};
+use crate::yson::{Yson, YsonError};
 use std::borrow::Cow;
 use std::fmt;
 
@@ -111,6 +112,15 @@ impl<'a> Value<'a> {
     pub fn bytes(&self) -> Option<&'a [u8]> {
         match self {
             Self::String(bytes) | Self::Any(bytes) | Self::Composite(bytes) => Some(bytes),
+            _ => None,
+        }
+    }
+
+    /// The checked view of an any or a composite: its node, with the items of its outer map, or where its
+    /// bytes fail. Reading a rowset does not look into them.
+    pub fn yson(&self) -> Option<Result<Yson<'a>, YsonError>> {
+        match self {
+            Self::Any(bytes) | Self::Composite(bytes) => Some(Yson::read(bytes)),
             _ => None,
         }
     }

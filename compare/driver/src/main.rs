@@ -17,9 +17,10 @@ use text::{
 };
 
 const NULL: u64 = u64::MAX;
-/// The words of a part and of a value in a table.
+/// The words of a part, of a value and of an item in a table.
 const PART: u64 = 3;
 const VALUE: u64 = 5;
+const ITEM: u64 = 4;
 /// The modes by the numbers of `face.h`.
 const ARCHIVE: u64 = 0;
 const LIVE: u64 = 1;
@@ -138,6 +139,7 @@ fn answer(line: &[u8]) -> Answer {
             "ok {}",
             u8::from(face::is_plain(&read_bytes(bytes)?))
         )),
+        (b"yson", [room, bytes]) => yson(number(room)?, &read_bytes(bytes)?),
         _ => Err(BadCase),
     }
 }
@@ -217,10 +219,10 @@ fn table(words: u64, most: usize) -> Vec<u64> {
 
 // The words of an answer.
 
-/// How many values document 01's number carries.
+/// How many values a refusal's number carries.
 fn carried(number: u64) -> usize {
     match number {
-        1 | 2 | 3 | 10 | 12 | 13 | 14 | 15 | 24 => 1,
+        1 | 2 | 3 | 10 | 12 | 13 | 14 | 15 | 20 | 21 | 24 => 1,
         4 | 5 | 6 | 8 | 9 | 11 | 16 | 18 => 2,
         7 | 17 => 3,
         _ => 0,
@@ -496,4 +498,37 @@ fn value(at: u64, input: &[u8]) -> Answer {
             outcome.count
         )
     }))
+}
+
+// YSON.
+
+/// The items of an outer map. The check without a table must answer the same, room aside.
+fn yson(room: u64, input: &[u8]) -> Answer {
+    // A key, an equals sign and a value have four bytes at least.
+    let mut items = table(
+        room.saturating_mul(ITEM),
+        ITEM as usize * (input.len() / 4 + 8),
+    );
+    items.extend(vec![FILL_WORD; input.len() % ITEM as usize]);
+    let checked = face::yson_check(input);
+    let outcome = face::yson_items(input, &mut items);
+    let alike = match outcome.number {
+        17 => checked.kind == face::ACCEPTED && checked.values[0] == outcome.values[1],
+        _ => {
+            or_refusal(&checked, String::new) == or_refusal(&outcome, String::new)
+                && checked.values == outcome.values
+        }
+    };
+    if !alike {
+        return Ok("other answer of the check".to_string());
+    }
+    if outcome.kind != face::ACCEPTED {
+        return Ok(mark(or_refusal(&outcome, String::new), words_kept(&items)));
+    }
+    let [count, ..] = outcome.values;
+    let (items, rest) = items.split_at((ITEM * count) as usize);
+    Ok(mark(
+        format!("ok {count} {}", words(items)),
+        words_kept(rest),
+    ))
 }

@@ -1,7 +1,7 @@
 //! Answers the comparison's cases with the Rust at the pinned commit: cases on standard input, one
 //! a line, and one answer line for each. The Rust is called and its results are written down; no
 //! answer is worked out here. Where the Rust has none (short room, a table that breaks a rule, the
-//! plain-form check, text that is no UTF-8, a start past the end, type 2 in live mode), the answer is
+//! plain-form check, YSON, text that is no UTF-8, a start past the end, type 2 in live mode), the answer is
 //! `skip`; where document 02 departs from the Rust, `excepted`.
 
 #[allow(dead_code)]
@@ -121,6 +121,11 @@ fn answer(line: &[u8]) -> Outcome {
             read_register(first)?;
             read_register(second)?;
             number(length)?;
+            Err(Without::Skip)
+        }
+        (b"yson", [room, bytes]) => {
+            number(room)?;
+            read_bytes(bytes)?;
             Err(Without::Skip)
         }
         (b"guid-text" | b"guid-bytes", [id, room]) => {

@@ -1,6 +1,6 @@
 -- What each exported function promises, by name: its outcome is that of the answer that the library's definitions give, and each
 -- lent buffer holds afterwards what they say. Assumes nothing.
-use Prim.Native.Nat.{ℕ}
+use Prim.Native.Nat.{ℕ, _/_}
 use mathlib.Core.Path.{_≡_}
 use mathlib.Core.Bool.{Bool}
 use mathlib.Core.List.{List, [], _∷_}
@@ -30,6 +30,7 @@ use Rattle.wire.specs.Layout.{countAt, rowWords, valueWords, rowsetBytes}
 use Rattle.wire_value.specs.ValueOrder.{valueReading}
 use Rattle.wire_read.specs.Reading as rowset
 use Rattle.wire_check.specs.Writing as rowsetWriting
+use Rattle.yson.specs.Reading as yson
 
 -- GUIDs, lent as wire bytes
 
@@ -115,3 +116,14 @@ MeasuresRowset area rows values r = Tells (rowsetWriting.measuring area rows val
 
 abbrev pub ReadsValue : List ℕ → ℕ → Outcome → Type 0
 ReadsValue s at r = Tells (valueReading s at) r
+
+-- YSON: the answer of the input's reading; four words are room for an item
+
+abbrev pub ChecksYson : List ℕ → Outcome → Type 0
+ChecksYson s r = (x : yson.Reading s) × Tells (yson.checking x) r
+
+abbrev pub ListsYson : List ℕ → List ℕ → Outcome → List ℕ → Type 0
+ListsYson s before r after =
+    (x : yson.Reading s)
+    × Tells (yson.listing x (length before / 4)) r
+    × Holds (yson.listing x (length before / 4)) (yson.wordsOf x) before after

@@ -2,6 +2,7 @@
 // struct of words: whether it accepts, document 01's number, how many bytes, and the values. ../face.h declares them for C.
 pub mod checksums;
 pub mod ids;
+pub mod notes;
 pub mod packets;
 pub mod rowsets;
 pub mod version;
