@@ -139,14 +139,6 @@ impl Table {
     }
 }
 
-/// A ratio, where both sides have a time.
-fn shown(ratio: f64) -> String {
-    match ratio.is_nan() {
-        true => "-".to_string(),
-        false => format!("{ratio:.2}"),
-    }
-}
-
 /// A ratio, or `-` where one side has no such call.
 fn shown(ratio: f64) -> String {
     match ratio.is_nan() {
