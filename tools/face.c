@@ -18,7 +18,8 @@ static void expect(const char *what, int holds) {
 
 int main(void) {
     cablefinch_outcome o;
-    uint64_t parts[3 * CABLEFINCH_PART_WORDS] = {0, CABLEFINCH_NULL, 0, 4, 0, 0, 2, 3, 0};
+    enum { WORDS = 3 * CABLEFINCH_PART_WORDS };
+    uint64_t parts[WORDS] = {0, CABLEFINCH_NULL, 0, 4, 0, 0, 2, 3, 0};
     const uint8_t input[5] = {1, 2, 3, 4, 5};
     const uint8_t map[7] = {'{', 1, 2, 'a', '=', '#', '}'};
     uint64_t item[CABLEFINCH_ITEM_WORDS] = {0};
@@ -87,13 +88,13 @@ int main(void) {
     IS(yson_items, CABLEFINCH_ACCEPTED, 0);
     expect("yson_items of one", o.values[0] == 1 && item[0] == 1 && item[1] == 4 && item[2] == 5 && item[3] == 6);
 
-    expect("null part", cablefinch_part_state(sizeof input, parts, 6, 0) == CABLEFINCH_PART_NULL);
-    expect("empty part", cablefinch_part_state(sizeof input, parts, 6, 1) == CABLEFINCH_PART_HERE);
-    expect("part", cablefinch_part_state(sizeof input, parts, 6, 2) == CABLEFINCH_PART_HERE);
-    expect("entry outside", cablefinch_part_state(4, parts, 6, 2) == CABLEFINCH_PART_OUTSIDE);
-    expect("no such part", cablefinch_part_state(sizeof input, parts, 6, 3) == CABLEFINCH_PART_OUTSIDE);
+    expect("null part", cablefinch_part_state(sizeof input, parts, WORDS, 0) == CABLEFINCH_PART_NULL);
+    expect("empty part", cablefinch_part_state(sizeof input, parts, WORDS, 1) == CABLEFINCH_PART_HERE);
+    expect("part", cablefinch_part_state(sizeof input, parts, WORDS, 2) == CABLEFINCH_PART_HERE);
+    expect("entry outside", cablefinch_part_state(4, parts, WORDS, 2) == CABLEFINCH_PART_OUTSIDE);
+    expect("no such part", cablefinch_part_state(sizeof input, parts, WORDS, 3) == CABLEFINCH_PART_OUTSIDE);
     expect("no table", cablefinch_part_state(0, NULL, 0, 0) == CABLEFINCH_PART_OUTSIDE);
-    cablefinch_part(&o, input, sizeof input, parts, 6, 2);
+    cablefinch_part(&o, input, sizeof input, parts, WORDS, 2);
     expect("a part lies where its entry says", o.values[0] == 2 && o.values[1] == 3);
     return failures != 0;
 }
