@@ -5,7 +5,6 @@ use mathlib.Core.List.{List, [], _∷_, _++_}
 use Prim.Native.Nat.{ℕ, zero, suc, _+_, _-_, _*_, _^_, _≤_, _<_, min}
 use native.Mathlib.Nat.{le-trans, mul-le-mul-left}
 use native.Mathlib.Omega.{arith}
-use lib.Dec.{lit<}
 use lib.ListN.{length, take, drop, length-take, length-drop, take-append-drop}
 use lib.Seq.{getD-drop, drop-drop}
 use lib.Pow.{pow-pos}
@@ -13,7 +12,6 @@ use Rattle.words.specs.Word.{Bytes}
 use Rattle.crc64.specs.Polynomial.{checksum}
 use Rattle.crc64.specs.Damage.{Damaged}
 use Rattle.crc64.proofs.Digits.{foldDigits, Digits, tail-digits, digits-append, digits-in-64, digits-injective, stretch-injective}
-use Rattle.crc64.proofs.Folding.{fold-digits}
 
 -- ---- parts of a string of digits
 
@@ -72,8 +70,3 @@ digits-burst w r {at} {n} {a} {b} some hr few d ha hb same =
     ∙ ap₂ (λ (t u : List ℕ). t ++ (stretch a ++ u)) (d .same-front) (d .same-rest)
     ∙ ap (λ (t : List ℕ). take at b ++ (t ++ drop (at + n) b)) one-stretch
     ∙ parts at n b)
-
--- of bytes: within eight of them
-pub burst : {at n : ℕ} {a b : List ℕ} → n ≤ 8 → Damaged at n a b → Bytes a → Bytes b → checksum a ≡ checksum b → ⊥
-burst {a = a} {b = b} few d ha hb same =
-    digits-burst 8 0 (lit< tt) (lit< tt) (mul-le-mul-left {n = 8} 8 few) d ha hb (sym (fold-digits 0 a) ∙ same ∙ fold-digits 0 b)

@@ -8,16 +8,14 @@ use native.Mathlib.Omega.{arith}
 use lib.ListN.{length, drop, length-append, length-drop}
 use lib.Seq.{length-take-le}
 use Rattle.words.specs.Decide.{pick}
-use Rattle.words.proofs.DecideLaws.{pick-case}
-use Rattle.words.specs.Word.{bytesOf, Bytes}
+use Rattle.words.specs.Word.{bytesOf}
 use Rattle.words.proofs.WordLaws.{length-bytesOf}
 use Rattle.crc64.specs.Polynomial.{checksum, fold}
-use Rattle.crc64.proofs.Burst.{bytes-take, bytes-drop}
 use Rattle.guid.specs.declared.Guid.{Guid}
 use Rattle.guid.proofs.WireLaws.{length-wire}
 use Rattle.packet.specs.Layout.{hasVariableHeader, headers}
 use Rattle.packet.specs.Entries.{room}
-use Rattle.packet.specs.Entries.{offsetAt, sizeAt, nullAt, stretchAt, isLent, lentAt}
+use Rattle.packet.specs.Entries.{offsetAt, sizeAt, nullAt, lentAt}
 use Rattle.packet.specs.Wire.{Part, null, bytes, sizeWord, sumWord, content, sizes, sums, contents, sealed, fixedFields, body, packetBytes, packetSize, partAt, partsFrom}
 use Rattle.packet_check.specs.Checks.{firstOutside}
 use Rattle.packet.proofs.EntryLaws.{inside, none-null, some-inside, lent-none, lent-some}
@@ -90,13 +88,6 @@ pub sum-content : (p : Part) → sumWord p ≡ checksum (content p)
 unfolding fold
 sum-content null = refl
 sum-content (bytes bs) = refl
-
--- what is lent of an area of bytes is bytes
-pub bytes-lent : (area table : List ℕ) (i : ℕ) → Bytes area → Bytes (lentAt area table i)
-bytes-lent area table i small =
-    pick-case (isLent area table i) (stretchAt area table i) [] (λ (s : List ℕ). Bytes s)
-    (λ e. bytes-take (sizeAt table i) (drop (offsetAt table i) area) (bytes-drop (offsetAt table i) area small))
-    (λ e j. omega arith)
 
 -- over a table whose entries lie in the area
 module _ (area table : List ℕ) (within : room table ≤ firstOutside area table) where

@@ -26,7 +26,7 @@ use Rattle.packet.specs.Entries.{entryWords}
 use Rattle.packet_read.specs.Statement.{Decodes, defaultCeiling}
 use Rattle.packet_read.specs.Reading.{Limits, limited, fails, tooLarge, partFails, firstTooLarge, firstFailing, fixedLines, variableLines, sizeLines, partLines, reading}
 use Rattle.packet_read.proofs.SizeLaws.{taken-below}
-use Rattle.promises.specs.Damage.{Stretch, fixedHeader, variableHeader, partAt, from, long, Names, Inside, Confined, Hit, HitInBytes, ConfinedIsNamed, DamageIsNamed, BytesAreNamed, DecodeWithNamesDamage, DecodeNamesDamage}
+use Rattle.promises.specs.Damage.{Stretch, fixedHeader, variableHeader, partAt, from, long, Names, Confined, Hit, HitInBytes, ConfinedIsNamed, DamageIsNamed, BytesAreNamed, DecodeWithNamesDamage, DecodeNamesDamage}
 use Rattle.promises.proofs.Agreement.{same-word, same-stretch, damaged-stretch, damaged-within, bytes-stretch}
 use Rattle.promises.proofs.BitRuns.{bits-64-seen, bytes-are-bits}
 use Rattle.promises.proofs.Acceptance.{guards, present, none-of, not-null, passed-before, passed-behind}

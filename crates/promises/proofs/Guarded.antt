@@ -1,29 +1,27 @@
 -- The third word of a part's entry is the stored checksum, and the writer does not read it. Assumes nothing.
-use mathlib.Core.Path.{_≡_, refl, sym, _∙_, ap, ap₂, subst}
-use mathlib.Core.Bool.{Bool, true, false, not, _&&_, or-true}
-use mathlib.Core.List.{List, [], _∷_, _++_}
+use mathlib.Core.Path.{_≡_, refl, _∙_, ap, ap₂}
+use mathlib.Core.Bool.{true, not, or-true}
+use mathlib.Core.List.{List, _∷_, _++_}
 use Prim.Native.Nat.{ℕ, zero, suc, _+_, _/_}
 use native.Mathlib.Omega.{arith}
 use borrow.Author.Tests.{lt-ltb}
-use lib.ListN.{length, getD, take}
-use Rattle.words.specs.Answer.{Answer, accepted, afterwards}
+use lib.ListN.{length, take}
 use Rattle.words.specs.Decide.{pick, _=?_, first}
 use Rattle.words.proofs.DecideLaws.{first-same}
 use Rattle.packet.specs.Layout.{hasVariableHeader, count, partSum}
-use Rattle.packet.specs.Entries.{entryWords, room, isOutside, isTooLarge, offsetAt, sizeAt, sumAt, outsideAt, tooLargeAt, isNull}
+use Rattle.packet.specs.Entries.{entryWords, room, isOutside, isTooLarge, outsideAt, tooLargeAt, isNull}
 use Rattle.packet.specs.Paper.{typeNumber}
-use Rattle.packet.specs.Wire.{Part, null, bytes, sumWord, partAt, partsFrom, partsOf}
+use Rattle.packet.specs.Wire.{Part, null, bytes, partsFrom, partsOf}
 use Rattle.packet.specs.declared.Mode.{Mode}
 use Rattle.packet.specs.declared.Packet.{Packet}
 use Rattle.packet_read.specs.declared.Decoded.the-variants.{Read}
 use Rattle.packet_read.specs.Statement.{Decodes}
-use Rattle.packet_read.proofs.Unique.{paper-injective}
 use Rattle.packet_check.specs.Checks.{tableLines, limitLines, checks, firstOutside, firstTooLarge, validating, sizing}
 use Rattle.packet_write.specs.Writing.{writing}
 use Rattle.words.specs.Buffer.{stretch}
 use Rattle.promises.specs.RoundTrip.{Valid, given, wire}
-use Rattle.promises.specs.Guarded.{SameStretches, SumsAreTold, WrittenIsGuarded, ThirdWordUnread}
-use Rattle.promises.proofs.Parts.{sums-are-told, written-is-lent, parts-are-lent}
+use Rattle.promises.specs.Guarded.{SameStretches, WrittenIsGuarded, ThirdWordUnread}
+use Rattle.promises.proofs.Parts.{sums-are-told, written-is-lent}
 use Rattle.promises.proofs.Encoded.{written-bytes, given-valid}
 use Rattle.promises.proofs.RoundTrip.{is-count, is-sum}
 

@@ -3,12 +3,12 @@ use mathlib.Core.Path.{_≡_, refl, sym, _∙_, ap}
 use mathlib.Core.Bool.{Bool, true, false, or-true}
 use mathlib.Core.List.{List, [], _∷_, _++_}
 use mathlib.Core.Logic.{⊎-elim, _⊎_}
-use Prim.Native.Nat.{ℕ, zero, suc, _+_, _*_, _<_, _≤_}
+use Prim.Native.Nat.{ℕ, _+_, _*_, _<_, _≤_}
 use native.Mathlib.Nat.{add-zero, zero-add}
 use native.Mathlib.Omega.{arith}
 use borrow.Author.Tests.{lt-ltb, le-ltb, ne-eqb, eq-eqb}
 use lib.ListN.{length, getD, take, drop, List·getD-append}
-use lib.Seq.{getD-append-add, take-take}
+use lib.Seq.{take-take}
 use Rattle.words.specs.Answer.{Answer, more, afterwards}
 use Rattle.words.proofs.Unique.{holds-kept}
 use Rattle.words.specs.Buffer.{over, stretch}

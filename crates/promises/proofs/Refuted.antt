@@ -31,7 +31,7 @@ use Rattle.packet.specs.Wire as Wire
 use Rattle.packet.specs.Wire.{sealed}
 use Rattle.promises.specs.BitRuns as BitRuns
 use Rattle.promises.specs.BitRuns.{bits, Unseen}
-use Rattle.promises.specs.Damage.{Stretch, fixedHeader, Inside, HitInBytes, NamedWhere, nothing, DamageHappens}
+use Rattle.promises.specs.Damage.{Stretch, fixedHeader, Inside, NamedWhere, nothing, DamageHappens}
 use Rattle.promises.specs.RoundTrip.{Message, Valid, Held}
 use Rattle.promises.specs.Refuted as Wrong
 use Rattle.promises.specs.Refuted.{HitOf65, SixtyFiveAreNamed, HitLowFirst, LowFirstIsNamed, HitUnguarded, UnguardedIsNamed, HitPast, PastIsNamed, UnseenIn64, SixtyFourUnseen, EightBytesUnseen, AlwaysBy5, NamedWithout24, PrefixOrWhole, RoundTripUnderAnyLimit, CeilingAlone, AcceptanceLeavesTables}
