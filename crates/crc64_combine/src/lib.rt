@@ -17,31 +17,41 @@ fn stepped(r: u64) -> u64
     ((r >> 63) * POLYNOMIAL) ^ (r << 1)
 }
 
-// The product of two registers, modulo the polynomial.
-fn times(a: u64, b: u64) -> u64
-    ensures { λ r. ⌜ r ≡ product 64 a b ⌝ }
-{
-    let mut sum = 0;
-    let mut shifted = a;
-    let mut rest = b;
-    let mut i: u64 = 0;
-    while i < 64 {
-        sum = sum ^ (rest % 2) * shifted;
-        shifted = stepped(shifted);
-        rest = rest / 2;
-        i += 1;
-    }
-    sum
+// A register and a power of x.
+struct Turn {
+    register: u64,
+    power: u64,
 }
 
-// a times the power where n is odd.
-fn where_odd(n: u64, power: u64, a: u64) -> u64
-    ensures { λ r. ⌜ r ≡ whereSet (n % 2) power a ⌝ }
+// One turn: the register times the power where n is odd, and the power squared. Both products, modulo the polynomial, are
+// summed in one walk over the power's steps, which is where the time goes.
+fn one_turn(n: u64, power: u64, register: u64) -> Turn
+    ensures { λ r. ⌜ (r .register ≡ whereSet (n % 2) power register) × (r .power ≡ product 64 power power) ⌝ }
 {
-    if n % 2 == 0 {
-        return a;
+    let mut product = 0;
+    let mut square = 0;
+    let mut shifted = power;
+    let mut terms = register;
+    let mut own = power;
+    let mut i: u64 = 0;
+    while i < 64 {
+        product = product ^ (terms % 2) * shifted;
+        square = square ^ (own % 2) * shifted;
+        shifted = stepped(shifted);
+        terms = terms / 2;
+        own = own / 2;
+        i += 1;
     }
-    times(power, a)
+    if n % 2 == 0 {
+        return Turn {
+            register,
+            power: square,
+        };
+    }
+    Turn {
+        register: product,
+        power: square,
+    }
 }
 
 // The register a, `length` bytes of zeros later: the power is squared for each bit of the length, of which there are
@@ -53,8 +63,9 @@ fn advanced(a: u64, length: u64) -> u64
     let mut power = BYTE;
     let mut left = length;
     while left > 0 {
-        register = where_odd(left, power, register);
-        power = times(power, power);
+        let next = one_turn(left, power, register);
+        register = next.register;
+        power = next.power;
         left = left / 2;
     }
     register

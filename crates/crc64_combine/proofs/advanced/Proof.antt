@@ -16,17 +16,14 @@ abbrev μ-loop : tie.MeasureT-loop
 loop-holds : tie.Need-loop-holds Inv-loop μ-loop
 loop-holds c = entering (c .args .a) (c .args .length) (search needs)
 
-where-odd-requires : tie.Need-where-odd-requires Inv-loop μ-loop
-where-odd-requires c κs = search needs
-
-times-requires : tie.Need-times-requires Inv-loop μ-loop
-times-requires c κs = search needs
+one-turn-requires : tie.Need-one-turn-requires Inv-loop μ-loop
+one-turn-requires c κs = search needs
 
 loop-less : tie.Need-loop-less Inv-loop μ-loop
 loop-less c = search needs
 
 loop-again : tie.Need-loop-again Inv-loop μ-loop
-loop-again c = squared (c .before .before .before .loop .inv) (c .before .where-odd .ensures) (c .times .ensures)
+loop-again c = squared (c .before .before .loop .inv) (c .one-turn .ensures .0) (c .one-turn .ensures .1)
 
 returns : tie.Need-returns Inv-loop μ-loop
 returns c = through (search needs) (c .before .loop .inv)
@@ -38,8 +35,7 @@ advanced-spec =
     Inv-loop
     μ-loop
     loop-holds
-    where-odd-requires
-    times-requires
+    one-turn-requires
     loop-less
     loop-again
     returns)
