@@ -27,6 +27,7 @@ pub mod OnePlainForm
 pub mod RowsetRefuted
 pub mod Guids
 pub mod Examples
+pub mod RustBytes
 pub mod TablesKeep
 pub mod OneResult
 pub mod Refuted

@@ -13,6 +13,7 @@ pub mod Rowsets
 pub mod RowsetRefuted
 pub mod Guids
 pub mod Examples
+pub mod RustBytes
 pub mod TablesKeep
 pub mod Refuted
 pub mod Listing
