@@ -1,6 +1,7 @@
 -- The walk: a word's lowest bytes stored one by one, the first stretch loaded alone, and what the output holds after each word.
 -- The register's laws are those of crc64_fast's Turn. Assumes nothing.
 use mathlib.Core.Path.{_≡_, refl, sym, ap, ap₂, _∙_, subst}
+use mathlib.Core.Bool.{Bool, true, false, true≢false}
 use mathlib.Core.List.{List, [], _∷_, _++_}
 use Prim.Native.Nat.{ℕ, _+_, _-_, _*_, _/_, _%_, _^_, _≤_, _<_}
 use native.Mathlib.Nat.{suc-ne-zero, add-zero, mul-zero, mul-comm, pow-succ', div-div-eq-div-mul}
@@ -10,17 +11,18 @@ use lib.ListN.{length, set, take, drop, take-append-drop, drop-of-length-le}
 use lib.Seq.{drop-drop, drop-at, length-take-le, take-all}
 use borrow.Rule.Slice.PartMut.{midOf, putMid}
 use Rattle.words.specs.Word.{word, bytesOf, Bytes}
+use Rattle.words.specs.Decide.{pick}
 use Rattle.words.specs.Buffer.{over, fitted}
 use Rattle.words.specs.Filling.{Filling}
 use Rattle.words.proofs.WordLaws.{word-split, word-past, bytesOf-word, bytesOf-split, length-bytesOf}
-use Rattle.words.proofs.BufferLaws.{over-store, fitted-fits, length-over}
-use Rattle.words.proofs.FillingLaws.{word-step, ends}
+use Rattle.words.proofs.BufferLaws.{over-store, fitted-fits, fitted-short, length-over}
+use Rattle.words.proofs.FillingLaws.{word-step, ends, place, length-now}
 use Rattle.crc64.specs.Polynomial.{fold}
 use Rattle.crc64.specs.Table.{swapped}
 use Rattle.crc64.proofs.Folding.{fold-append}
 use Rattle.crc64.proofs.Burst.{bytes-take}
 use Rattle.crc64_fast.proofs.Stretch.{after}
 use Rattle.crc64_fast.proofs.Turn.{start}
 use lib.Bits.{bitXor}
 
 -- one byte more of a word, and what is left of it
@@ -118,3 +120,52 @@ module _ (s : List ℕ) (i : ℕ) {before now : List ℕ} (f : Filling s (drop i
 
   pub all-copied : length s ≤ i → now ≡ over s before
   all-copied h = ends (subst (λ (rest : List ℕ). Filling s rest before now i) (drop-of-length-le s {i = i} h) f)
+
+-- where the output is too short for all, nothing is put: the word and the output after it, by that test
+pub only-read : {A : Type 0} {short : Bool} (x y : A) {z : A} → short ≡ true → z ≡ x → z ≡ pick short x y
+only-read x y {z} e known = subst (λ (b : Bool). z ≡ pick b x y) (sym e) known
+
+pub also-put : {A : Type 0} {short : Bool} (x y : A) {z : A} → short ≡ false → z ≡ y → z ≡ pick short x y
+also-put x y {z} e known = subst (λ (b : Bool). z ≡ pick b x y) (sym e) known
+
+-- what is to be copied by the i-th byte is copied
+abbrev pub So-far : Bool → List ℕ → ℕ → List ℕ → List ℕ → Type 0
+So-far true s i before now = now ≡ before
+So-far false s i before now = Filling s (drop i s) before now i
+
+pub started : (short : Bool) (s : List ℕ) (more : ℕ) → Bytes s → more < 8 → more + 1 ≤ length s
+    → {w : ℕ} → w ≡ pick short (word 8 s 0) (word 8 (take (more + 1) s) 0) → (q : ℕ) → q < 2 ^ 64
+    → fold (after (bitXor q w * 2 ^ (56 - 8 * more) % 2 ^ 64) (q / 2 ^ 8 / 2 ^ (8 * more))) (drop (more + 1) s) ≡ fold (swapped 8 q) s
+started true s more hs few there known q hq = start q s more known hq hs few there
+started false s more hs few there known q hq = first-folded s more hs few there known q hq
+
+pub first-so-far : (short : Bool) (s : List ℕ) (more : ℕ) → Bytes s → more < 8 → more + 1 ≤ length s
+    → {w : ℕ} → w ≡ pick short (word 8 s 0) (word 8 (take (more + 1) s) 0) → (before : List ℕ) {now : List ℕ}
+    → (short ≡ false → length s ≤ length before) → now ≡ pick short before (over (bytesOf (more + 1) w) before) → So-far short s (more + 1) now now
+first-so-far true s more hs few there known before room e = refl
+first-so-far false s more hs few there known before room e = first-copied s more hs few there known before (room refl) e
+
+pub next-so-far : (short : Bool) (s : List ℕ) (i : ℕ) (before now : List ℕ) → So-far short s i before now → {w : ℕ} {after : List ℕ} → w ≡ word 8 s i → Bytes s → 8 ≤ length s - i
+    → after ≡ pick short now (putMid i (length now - i) now (fitted (bytesOf 8 w) (midOf i (length now - i) now))) → So-far short s (i + 8) before after
+next-so-far true s i before now f known hs h e = e ∙ f
+next-so-far false s i before now f known hs h e =
+    subst (λ (z : List ℕ). Filling s (drop (i + 8) s) before z (i + 8)) (sym e) (word-copied s i f known hs h refl)
+
+pub length-so-far : (short : Bool) (s : List ℕ) (i : ℕ) (before now : List ℕ) → So-far short s i before now → length now ≡ length before
+length-so-far true s i before now f = ap length f
+length-so-far false s i before now f = length-now f
+
+pub place-so-far : (short : Bool) (s : List ℕ) (i : ℕ) (before now : List ℕ) → So-far short s i before now → short ≡ false → i ≤ length now
+place-so-far true s i before now f e = absurd (true≢false e)
+place-so-far false s i before now f e = place f
+
+pub all-so-far : (short : Bool) (s : List ℕ) (more : ℕ) → Bytes s → more < 8 → more + 1 ≤ length s
+    → {w : ℕ} → w ≡ pick short (word 8 s 0) (word 8 (take (more + 1) s) 0) → (before : List ℕ) {now : List ℕ}
+    → (short ≡ false → length s ≤ length before) → (short ≡ true → length before < length s) → now ≡ pick short before (over (bytesOf (more + 1) w) before)
+    → (i : ℕ) {last : List ℕ} → So-far short s i now last → length s ≤ i → last ≡ fitted s before
+all-so-far true s more hs few there known before room lack e i f h = f ∙ e ∙ sym (fitted-short s before (lack refl))
+all-so-far false s more hs few there known before room lack e i f h = all-over s more hs few there known before (room refl) e (all-copied s i f h)
+
+pub first-kept : (short : Bool) (n w : ℕ) (before : List ℕ) {now : List ℕ} → (short ≡ false → n ≤ length before) → now ≡ pick short before (over (bytesOf n w) before) → length now ≡ length before
+first-kept true n w before room e = ap length e
+first-kept false n w before {now} room e = low-length w n before now e (room refl)

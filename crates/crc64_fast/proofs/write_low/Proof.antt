@@ -9,9 +9,9 @@ use Rattle.words.specs.Word.{bytesOf}
 use Rattle.words.specs.Buffer.{over}
 use Rattle.words.proofs.WordLaws.{length-bytesOf}
 use Rattle.words.proofs.BufferLaws.{fitted-fits}
-use Rattle.crc64_copy.proofs.Walk.{low-more, low-left, low-length}
-use Rattle.crc64_copy.proofs.write_low.Statement.{statement}
-use Rattle.crc64_copy.proofs.write_low.Tie as tie
+use Rattle.crc64_fast.proofs.Walk.{low-more, low-left, low-length}
+use Rattle.crc64_fast.proofs.write_low.Statement.{statement}
+use Rattle.crc64_fast.proofs.write_low.Tie as tie
 
 abbrev Inv-loop : tie.InvT-loop
 Inv-loop word count out₀ left₀ i₀ out left i = (i ≤ count) × (left ≡ word / 256 ^ i) × (out ≡ over (bytesOf i word) out₀)
