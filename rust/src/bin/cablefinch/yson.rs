@@ -1,0 +1,49 @@
+//! `cablefinch yson`: whether a value is well formed, and where it breaks.
+
+use crate::arguments::Arguments;
+use crate::input;
+use crate::screen::{Colour, Screen};
+use crate::{Stop, Verdict, shown};
+use cablefinch::yson;
+use std::io::Write as _;
+
+/// `cablefinch yson FILE`.
+pub fn run(arguments: &Arguments, screen: &mut Screen) -> Result<Verdict, Stop> {
+    input::each(arguments, screen, |mut input, screen| {
+        let bytes = input.whole(usize::MAX, screen)?;
+        let error = match yson::check(&bytes) {
+            Ok(items) => {
+                screen.paint(Colour::Green, "well formed");
+                let _ = match items {
+                    0 => writeln!(screen.text()),
+                    1 => writeln!(screen.text(), ", a map of 1 item"),
+                    _ => writeln!(screen.text(), ", a map of {items} items"),
+                };
+                return Ok(Verdict::Right);
+            }
+            Err(error) => error,
+        };
+        let place = error.place().unwrap_or(0);
+        screen.paint(Colour::Red, "refused");
+        let _ = writeln!(screen.text(), " {place} {}", error.code());
+        let advice = advice(&bytes, place);
+        let message = format!("{error}{advice}\n{}", shown::place(&bytes, place));
+        screen.tell(input.told(), &message)?;
+        Ok(Verdict::Refused)
+    })
+}
+
+/// What to do, where the bytes are something that people take for YSON: a line of its own.
+fn advice(bytes: &[u8], place: usize) -> &'static str {
+    match bytes.get(place..) {
+        Some([]) if place == 0 => "\n    it is empty",
+        Some([]) => "\n    it ends there: fetch it again, to its end",
+        Some(b"\n" | b"\r\n") if place > 0 => {
+            "\n    a line's end stands behind the value: leave it away"
+        }
+        Some([byte, ..]) if byte.is_ascii_alphanumeric() || b"\"%-+ \t\r\n".contains(byte) => {
+            "\n    the binary form alone is read, and this looks like the text form"
+        }
+        _ => "",
+    }
+}
