@@ -779,6 +779,11 @@ impl Draw {
     }
 
     fn packet(&mut self) -> Vec<u8> {
+        if self.one_in(12) {
+            // With its headers of 56 bytes it is as long as the limit, or a byte off.
+            let length = SHORT - 57 + self.below(3);
+            return message(&[Some(&self.bytes(length))]);
+        }
         let count = match self.below(12) {
             0 | 1 => 0,
             2 => 2_040 + self.below(20),
