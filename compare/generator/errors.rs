@@ -501,7 +501,9 @@ fn types(lines: &mut Vec<String>) {
         for number in [0, 1, 2, 3, 4, 5, 6, 15, 16, 19_000, (1 << 29) - 1, 1 << 29] {
             for kind in 0..8 {
                 let tag = 8 * number + kind;
-                for size in [varint::shortest(tag), varint::shortest(tag) + 1] {
+                let least = varint::shortest(tag);
+                // Overlong for field 0 and one that is known.
+                for size in least..=least + usize::from(number < 2) {
                     let head = varint::of(tag, size);
                     for payload in [&b""[..], b"\0", b"\x05", b"\x02hi", b"1234", b"12345678"] {
                         let this = [&head[..], payload].concat();
