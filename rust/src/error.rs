@@ -66,8 +66,8 @@ impl<'a> TError<'a> {
         Self::read_within(input, usize::MAX, usize::MAX)
     }
 
-    /// Reads a message of at most so many errors and attributes. For a message that is refused, no
-    /// more memory is taken than for these, nor more than twice the bytes of `input`.
+    /// Reads a message of at most so many errors and attributes. No more memory is taken than for these,
+    /// and for bytes that are no message no more than twice their own.
     pub fn read_within(
         input: &'a [u8],
         most_errors: usize,
