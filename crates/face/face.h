@@ -57,7 +57,7 @@ enum {
     CABLEFINCH_BAD_YSON = 20,                 /* where: the failing token's start, or the input's length */
     CABLEFINCH_TOO_DEEP = 21,                 /* where the bracket stands that would be one too many open */
     CABLEFINCH_BAD_MESSAGE = 22,              /* where the field begins that is not whole or not to be taken */
-    CABLEFINCH_ERRORS_TOO_DEEP = 23,          /* where the inner error's field begins that would be one level too many */
+    CABLEFINCH_ERRORS_TOO_DEEP = 23,          /* where the field of an inner error begins that is one level too deep */
     CABLEFINCH_RETIRED_TYPE = 24              /* the type found; in live mode alone */
 };
 
@@ -248,16 +248,16 @@ cablefinch_outcome *cablefinch_yson_check(cablefinch_outcome *o, const uint8_t *
 cablefinch_outcome *cablefinch_yson_items(cablefinch_outcome *o, const uint8_t *input, size_t n, uint64_t *table,
         size_t words);
 
-/* Error messages from the cluster: a TError as protobuf. An error table has CABLEFINCH_ERROR_WORDS words for each error,
- * each error before its inner ones: its code (the low 32 bits; as int32_t it is the cluster's number), its depth from 1
- * to CABLEFINCH_MAX_ERROR_DEPTH, where its text begins and how long that is. An attribute table has
+/* Error messages from the cluster: a TError as protobuf. An error table has CABLEFINCH_ERROR_WORDS words for each
+ * error, each error before its inner ones: its code (the low 32 bits; as int32_t it is the cluster's number), its depth
+ * from 1 to CABLEFINCH_MAX_ERROR_DEPTH, where its text begins and how long that is. An attribute table has
  * CABLEFINCH_ATTRIBUTE_WORDS words for each attribute: which error it belongs to, counted from 0, where its key begins
- * and how long that is, and the same of its value. Texts and keys need not be UTF-8; values are YSON, as the functions
- * above take it. What is absent lies at 0 and has length 0. */
+ * and how long that is, and the same of its value. Texts and keys need not be UTF-8; values are not looked into, and
+ * the cluster writes them as YSON. What is absent lies at 0 and has length 0. */
 
 /* Reads the TError that the input is, all of it; values: how many errors, how many attributes. Attributes stand in the
- * order of the input, which need not be that of their errors. A field that is not whole, or may not be taken, is refused
- * with CABLEFINCH_BAD_MESSAGE, an inner error below the deepest level with CABLEFINCH_ERRORS_TOO_DEEP. */
+ * order of the input, which need not be that of their errors. A field that is not whole, or may not be taken, is
+ * refused with CABLEFINCH_BAD_MESSAGE, an inner error below the deepest level with CABLEFINCH_ERRORS_TOO_DEEP. */
 cablefinch_outcome *cablefinch_error_read(cablefinch_outcome *o, const uint8_t *input, size_t n,
         uint64_t *errors, size_t error_words, uint64_t *attributes, size_t attribute_words);
 /* count: how many bytes cablefinch_error_write would write, at most 2^64-1, however much room there is. */

@@ -1,4 +1,4 @@
-// Error messages from the cluster, TErrors: read into lent tables of errors and attributes, measured and written from them.
+// Error messages from the cluster (TErrors): read into lent tables of errors and attributes, measured, written.
 ghost use Rattle.face.specs.Statement.{DecodesError, MeasuresError, EncodesError};
 use words::outcome::Outcome;
 
