@@ -41,7 +41,8 @@ impl Tables {
             errors: Vec::new(),
             attributes: Vec::new(),
         };
-        let rows = errors.iter().map(|error| error.attributes.len()).sum();
+        let rows = errors.iter().map(|error| error.attributes.len());
+        let rows = rows.fold(0, usize::saturating_add);
         reserve(&mut tables.errors, errors.len())?;
         reserve(&mut tables.attributes, rows)?;
         let mut lie = |bytes: &'a [u8]| [place(bytes) as u64, bytes.len() as u64];
