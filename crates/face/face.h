@@ -264,8 +264,8 @@ cablefinch_outcome *cablefinch_error_read(cablefinch_outcome *o, const uint8_t *
 cablefinch_outcome *cablefinch_error_size(cablefinch_outcome *o, const uint8_t *area, size_t n,
         const uint64_t *errors, size_t error_words, const uint64_t *attributes, size_t attribute_words);
 /* Writes the TError of two tables whose texts, keys and values lie in the area; count: its bytes. An error's attributes
- * are all entries that name it, in the table's order; where the table is sorted by error, each is looked at twice, else
- * the whole table is looked through for each error. */
+ * are all entries that name it, in the table's order. Where the table is sorted by error, the time grows with its
+ * length; else the whole table is looked through for each error. */
 cablefinch_outcome *cablefinch_error_write(cablefinch_outcome *o, const uint8_t *area, size_t n,
         const uint64_t *errors, size_t error_words, const uint64_t *attributes, size_t attribute_words, uint8_t *out,
         size_t room);
