@@ -262,6 +262,7 @@ fn packets(table: &mut Table) {
     let ack = || sample(PacketType::Ack, 0, 0, true);
     let small = || sample(PacketType::Message, 3, 100, true);
     let large = || sample(PacketType::Message, 1_000, 1_024, true);
+    let huge = || sample(PacketType::Message, 1, 1 << 26, true);
     let bare = || sample(PacketType::Message, 1_000, 1_024, false);
     stream(table);
     decoded(table, "Ack decoded", 2_000, None, ack);
@@ -270,6 +271,7 @@ fn packets(table: &mut Table) {
     encoded(table, "3 parts of 100 B encoded", 1_000, Some(0.97), small);
     decoded(table, "1,000 parts of 1 KiB decoded", 4, Some(3.0), large);
     encoded(table, "1,000 parts of 1 KiB encoded", 4, Some(3.0), large);
+    encoded(table, "one part of 64 MiB encoded", 1, Some(3.0), huge);
     decoded(
         table,
         "1,000 parts of 1 KiB without checksums decoded",

@@ -2,4 +2,5 @@
 pub mod Parts
 pub mod Stretch
 pub mod Turn
+pub mod Walk
 pub mod Unique

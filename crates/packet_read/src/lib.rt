@@ -287,12 +287,12 @@ fn fill(input: &[u8], count: usize, parts: &mut [u64])
         × (entryWords * count ≤ length (now parts)) ⌝ }
     ensures { λ _. ⌜ now (parts .exit) ≡ over (entriesFrom (now (input .entry)) count 0 count) (now (parts .entry)) ⌝ }
 {
-    let sums = FIXED_HEADER_SIZE + SIZE_BYTES * count;
+    let stored = FIXED_HEADER_SIZE + SIZE_BYTES * count;
     let mut at = (HEADERS_SIZE + PART_HEADER_SIZE * count) as u64;
     let mut index = 0;
     while index < count {
         let size = read_u32(input, FIXED_HEADER_SIZE + SIZE_BYTES * index);
-        let sum = read_u64(input, sums + CHECKSUM_BYTES * index);
+        let sum = read_u64(input, stored + CHECKSUM_BYTES * index);
         parts[ENTRY_WORDS * index] = offset_word(size, at);
         parts[ENTRY_WORDS * index + 1] = length_word(size);
         parts[ENTRY_WORDS * index + 2] = sum;

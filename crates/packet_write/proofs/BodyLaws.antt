@@ -1,95 +1,115 @@
--- What follows the fixed header, piece by piece: the sizes, the part checksums, the checksum of both, the parts.
--- Assumes nothing.
-use mathlib.Core.Path.{_≡_, sym, _∙_, ap, subst}
-use mathlib.Core.List.{List, _++_, append-assoc}
+-- What follows the fixed header, piece by piece: the sizes; the part checksums and the parts; the checksum of sizes and checksums,
+-- last. Assumes nothing.
+use mathlib.Core.Path.{_≡_, sym, _∙_, ap, ap₂}
+use mathlib.Core.List.{List, [], _++_, append-assoc, append-nil}
 use Prim.Native.Nat.{ℕ, _+_, _*_, _-_, _≤_}
 use native.Mathlib.Omega.{arith}
-use lib.ListN.{length, take, length-append}
+use lib.ListN.{length, take, drop, length-append, length-drop, drop-of-length-le}
+use lib.Seq.{length-take-le, take-at, drop-at, drop-drop}
 use borrow.Rule.Slice.PartMut.{midOf, putMid}
-use Rattle.words.specs.Word.{bytesOf}
 use Rattle.words.specs.Buffer.{over}
-use Rattle.words.proofs.WordLaws.{length-bytesOf}
-use Rattle.crc64.specs.Polynomial.{checksum}
+use Rattle.words.proofs.BufferLaws.{length-over}
+use Rattle.words.proofs.LentLaws.{tail-is-drop}
 use Rattle.packet.specs.Entries.{room}
 use Rattle.packet.specs.Wire.{sizes, sums, contents, sealed, body, partsOf}
 use Rattle.packet_check.specs.Stages.{Passes}
 use Rattle.packet_check.proofs.WireLaws.{length-parts}
-use Rattle.packet_write.specs.Stages.{entrySizes}
-use Rattle.words.specs.Filling.{Filling}
-use Rattle.packet_write.proofs.FillingLaws.{opens, step, seals, closes, room-left, length-now, mid-room, mid-fits}
-use Rattle.packet_write.proofs.PieceLaws.{length-sizes, length-sums, length-body, sizes-entries}
+use Rattle.packet_write.specs.Stages.{entrySizes, partsAt, parted}
+use Rattle.packet_write.proofs.FillingLaws.{sealed-front}
+use Rattle.packet_write.proofs.PieceLaws.{length-sealed, length-sizes, length-sums, length-body, sizes-entries}
+
+-- what is checked by the checksum of the variable header
+abbrev guarded : List ℕ → List ℕ → List ℕ
+guarded area table = sizes (partsOf area table) ++ sums (partsOf area table)
+
+-- an output that held `before` holds a body but for that checksum: eight bytes are as they were
+pub record Unsealed (area table before now : List ℕ) : Type 0 where
+  pub gap : List ℕ
+  pub eight : length gap ≡ 8
+  pub holds : now ≡ guarded area table ++ (gap ++ over (contents (partsOf area table)) (drop (12 * room table + 8) before))
 
 module _ (area table : List ℕ) where
-  -- what is checked by the checksum of the variable header
-  abbrev pub guarded : List ℕ
-  guarded = sizes (partsOf area table) ++ sums (partsOf area table)
-
-  -- and what follows it
-  abbrev pub behind : List ℕ
-  behind = bytesOf 8 (checksum guarded) ++ contents (partsOf area table)
-
-  module _ (before now : List ℕ) where
-    abbrev pub Sized : Type 0
-    Sized = Filling (body (partsOf area table)) (sums (partsOf area table) ++ behind) before now (4 * room table)
-
-    abbrev pub Summed : Type 0
-    Summed = Filling (body (partsOf area table)) behind before now (12 * room table)
-
-    abbrev pub Guarded : Type 0
-    Guarded = Filling (body (partsOf area table)) (contents (partsOf area table)) before now (12 * room table + 8)
-
   sums-length : length (sums (partsOf area table)) ≡ 8 * room table
   sums-length = length-sums (partsOf area table) ∙ ap (λ (n : ℕ). 8 * n) (length-parts table area 0 (room table))
 
   sizes-length : length (sizes (partsOf area table)) ≡ 4 * room table
   sizes-length = length-sizes (partsOf area table) ∙ ap (λ (n : ℕ). 4 * n) (length-parts table area 0 (room table))
 
-  -- the room that a body asks for
-  pub body-room : (before : List ℕ) → length (body (partsOf area table)) ≤ length before → 12 * room table + 8 ≤ length before
-  body-room before fits =
-      let whole : length (body (partsOf area table)) ≡ 8 + 12 * length (partsOf area table) + length (contents (partsOf area table)) = length-body (partsOf area table) in
-      let count : length (partsOf area table) ≡ room table = length-parts table area 0 (room table) in
-      omega arith
+  guarded-length : length (guarded area table) ≡ 12 * room table
+  guarded-length = length-append (sizes (partsOf area table)) (sums (partsOf area table)) ∙ omega (arith, sizes-length, sums-length)
 
-  module _ (before : List ℕ) {now : List ℕ} where
-    pub sizes-written : Passes area table → length (body (partsOf area table)) ≤ length before → now ≡ over (entrySizes table 0 (room table)) before → Sized before now
-    unfolding body sealed
-    sizes-written good fits e =
-        let front : List ℕ = sizes (partsOf area table) in
-        let rest : List ℕ = sums (partsOf area table) ++ behind in
-        let joined : front ++ rest ≡ body (partsOf area table) = sym (append-assoc front (sums (partsOf area table)) behind) ∙ sym (append-assoc guarded (bytesOf 8 (checksum guarded)) (contents (partsOf area table))) in
-        let written : now ≡ over front before = e ∙ ap (λ (ws : List ℕ). over ws before) (sym (sizes-entries area table (good .inside) 0 (room table) (omega arith))) in
-        subst (λ (w : List ℕ). Filling w rest before now (4 * room table)) joined (opens front rest (4 * room table) (rw joined fits) sizes-length written)
+  module _ (before : List ℕ) (fits : length (body (partsOf area table)) ≤ length before) where
+    -- the room that a body asks for
+    pub body-room : 12 * room table + 8 + length (contents (partsOf area table)) ≤ length before
+    body-room =
+        let whole : length (body (partsOf area table)) ≡ 8 + 12 * length (partsOf area table) + length (contents (partsOf area table)) = length-body (partsOf area table) in
+        let count : length (partsOf area table) ≡ room table = length-parts table area 0 (room table) in
+        omega arith
 
-    module _ {after : List ℕ} where
-      pub sums-written : Sized before now → after ≡ over (sums (partsOf area table)) (midOf (4 * room table) (length now - 4 * room table) now)
-          → Summed before (putMid (4 * room table) (length now - 4 * room table) now after)
-      sums-written f e =
-          let many : length (sums (partsOf area table)) ≡ 8 * room table = sums-length in
-          step (sums (partsOf area table)) behind (12 * room table) f (omega arith) e
+    module _ {now : List ℕ} (good : Passes area table) (e : now ≡ over (entrySizes table 0 (room table)) before) where
+      sized : now ≡ over (sizes (partsOf area table)) before
+      sized = e ∙ ap (λ (ws : List ℕ). over ws before) (sym (sizes-entries area table (good .inside) 0 (room table) (omega arith)))
 
-      pub guard-written : Summed before now → after ≡ over (sealed (take (12 * room table) now)) now → Guarded before after
+      sized-length : length now ≡ length before
+      sized-length = ap length sized ∙ length-over (sizes (partsOf area table)) before (omega (arith, sizes-length, body-room))
+
+      pub sums-place : 4 * room table ≤ length now
+      sums-place = omega (arith, sized-length, body-room)
+
+      -- what is behind the sizes is as it was
+      lent : midOf (4 * room table) (length now - 4 * room table) now ≡ drop (4 * room table) before
+      lent =
+          tail-is-drop now (4 * room table)
+          ∙ ap (drop (4 * room table)) sized
+          ∙ drop-at (sizes (partsOf area table)) (drop (length (sizes (partsOf area table))) before) (4 * room table) sizes-length
+          ∙ ap (λ (n : ℕ). drop n before) sizes-length
+
+      pub parts-room : partsAt table + length (contents (partsOf area table)) ≤ length (midOf (4 * room table) (length now - 4 * room table) now)
+      parts-room = omega (arith, body-room, ap length lent, length-drop (4 * room table) before)
+
+      pub parts-written : {after : List ℕ} → after ≡ parted area table (midOf (4 * room table) (length now - 4 * room table) now)
+          → Unsealed area table before (putMid (4 * room table) (length now - 4 * room table) now after)
+      parts-written {after} wrote =
+          let size : List ℕ = sizes (partsOf area table) in
+          let sum : List ℕ = sums (partsOf area table) in
+          let rest : List ℕ = drop (4 * room table) before in
+          let m : ℕ = partsAt table in
+          let left : List ℕ = drop (length sum) (take m rest) in
+          let held : length (take m rest) ≡ m = length-take-le m rest (omega (arith, body-room, length-drop (4 * room table) before)) in
+          let all : 4 * room table + m ≡ 12 * room table + 8 = omega arith in
+          let nothing : drop (length now - 4 * room table) (drop (4 * room table) now) ≡ [] =
+          drop-of-length-le (drop (4 * room table) now) {i = length now - 4 * room table} (simp length-drop (omega arith)) in
+          let head : take (4 * room table) now ≡ size = ap (take (4 * room table)) sized ∙ take-at size (drop (length size) before) (4 * room table) sizes-length in
+          let tail : after ≡ sum ++ left ++ over (contents (partsOf area table)) (drop (12 * room table + 8) before) =
+          wrote ∙ ap (parted area table) lent
+          ∙ ap (λ (z : List ℕ). sum ++ left ++ over (contents (partsOf area table)) z) (drop-drop m (4 * room table) before ∙ ap (λ (n : ℕ). drop n before) all) in
+          record {
+            gap = left;
+            eight = length-drop (length sum) (take m rest) ∙ omega (arith, held, sums-length);
+            holds =
+                ap₂ (λ (a z : List ℕ). a ++ (after ++ z)) head nothing
+                ∙ ap (λ (z : List ℕ). size ++ z) (append-nil after ∙ tail ∙ append-assoc sum left (over (contents (partsOf area table)) (drop (12 * room table + 8) before)))
+                ∙ sym (append-assoc size sum (left ++ over (contents (partsOf area table)) (drop (12 * room table + 8) before)));
+          }
+
+    module _ {now : List ℕ} (u : Unsealed area table before now) where
+      abbrev rest : List ℕ
+      rest = over (contents (partsOf area table)) (drop (12 * room table + 8) before)
+
+      pub seal-room : 12 * room table + 8 ≤ length now
+      seal-room =
+          omega (arith, guarded-length, u .eight, ap length (u .holds), length-append (guarded area table) (u .gap ++ rest), length-append (u .gap) rest)
+
+      -- the checksum is put into its place, and the parts stay
+      pub body-written : {after : List ℕ} → after ≡ over (sealed (take (12 * room table) now)) now → after ≡ over (body (partsOf area table)) before
       unfolding body
-      guard-written f e =
-          let both : length guarded ≡ length (sizes (partsOf area table)) + length (sums (partsOf area table)) = length-append (sizes (partsOf area table)) (sums (partsOf area table)) in
-          let some : length (sizes (partsOf area table)) ≡ 4 * room table = sizes-length in
-          let many : length (sums (partsOf area table)) ≡ 8 * room table = sums-length in
-          seals guarded (contents (partsOf area table)) f (omega arith) e
-
-      pub contents-written : Guarded before now → after ≡ over (contents (partsOf area table)) (midOf (12 * room table + 8) (length now - (12 * room table + 8)) now)
-          → putMid (12 * room table + 8) (length now - (12 * room table + 8)) now after ≡ over (body (partsOf area table)) before
-      contents-written f e = closes (contents (partsOf area table)) f e
-
-    -- the room that is lent to each
-    pub sums-room : Sized before now → 8 * room table ≤ length (midOf (4 * room table) (length now - 4 * room table) now)
-    sums-room f =
-        let many : length (sums (partsOf area table)) ≡ 8 * room table = sums-length in
-        omega (arith, mid-fits (sums (partsOf area table)) behind f)
-
-    pub guard-room : Summed before now → 12 * room table + 8 ≤ length now
-    guard-room f =
-        let sum : List ℕ = bytesOf 8 (checksum guarded) in
-        omega (arith, room-left f, length-now f, length-append sum (contents (partsOf area table)), length-bytesOf 8 (checksum guarded))
-
-    pub contents-room : Guarded before now → length (contents (partsOf area table)) ≤ length (midOf (12 * room table + 8) (length now - (12 * room table + 8)) now)
-    contents-room f = omega (arith, mid-room f)
+      body-written {after} e =
+          let part : List ℕ = contents (partsOf area table) in
+          let whole : List ℕ = sealed (guarded area table) in
+          let at : ℕ = 12 * room table + 8 in
+          let long : length whole ≡ at = length-sealed (guarded area table) ∙ ap (λ (n : ℕ). n + 8) guarded-length in
+          let end : length (whole ++ part) ≡ at + length part = length-append whole part ∙ ap (λ (n : ℕ). n + length part) long in
+          sealed-front (guarded area table) (u .gap ++ rest) guarded-length (u .holds) e
+          ∙ ap (λ (z : List ℕ). whole ++ z) (drop-at (u .gap) rest 8 (u .eight) ∙ ap (λ (z : List ℕ). part ++ z) (drop-drop (length part) at before))
+          ∙ sym (append-assoc whole part (drop (at + length part) before))
+          ∙ ap (λ (n : ℕ). whole ++ part ++ drop n before) (sym end)

@@ -23,7 +23,6 @@ use words::outcome::NoRoom;
 use words::outcome::Outcome;
 use words::outcome::Room;
 use words::outcome::taken;
-use words::write::write_bytes;
 use words::write::write_u16;
 use words::write::write_u32;
 use words::write::write_u64;
@@ -35,10 +34,10 @@ ghost use Rattle.words.specs.Buffer.{over};
 ghost use Rattle.packet.specs.Layout.{fixedFieldsSize, fixedHeaderSize, sizeBytes, checksumBytes};
 ghost use Rattle.packet.specs.Paper.{typeNumber};
 ghost use Rattle.packet.specs.Entries.{room, isTooLarge};
-ghost use Rattle.packet.specs.Wire.{sealed, fixedFields, sums, contents, body, partsOf};
+ghost use Rattle.packet.specs.Wire.{sealed, fixedFields, contents, body, partsOf};
 ghost use Rattle.packet_check.specs.Checks.{firstTooLarge, firstOutside};
 ghost use Rattle.packet_check.specs.Stages.{Passes};
-ghost use Rattle.packet_write.specs.Stages.{entrySize, entrySizes};
+ghost use Rattle.packet_write.specs.Stages.{entrySize, entrySizes, partsAt, parted};
 ghost use Rattle.packet_write.specs.Statement.{Encodes, TellsEncoded, bytesFor};
 
 pub enum Encoded {
@@ -92,35 +91,24 @@ fn write_sizes(parts: &[u64], out: &mut [u8])
     }
 }
 
-fn write_sums(area: &[u8], parts: &[u64], out: &mut [u8])
+// The checksum words of the parts at the front of `out`, and the parts behind them and the eight bytes of the words' own
+// checksum, which stay as they were. A part is copied and folded on one walk, and its word is put after it.
+fn write_parts(area: &[u8], parts: &[u64], out: &mut [u8])
     requires { ⌜ (room (now parts) ≤ firstOutside (now area) (now parts))
-        × (checksumBytes * room (now parts) ≤ length (now out)) ⌝ }
+        × (partsAt (now parts) + length (contents (partsOf (now area) (now parts))) ≤ length (now out)) ⌝ }
     ensures { λ _. ⌜ now (out .exit)
-        ≡ over (sums (partsOf (now (area .entry)) (now (parts .entry)))) (now (out .entry)) ⌝ }
+        ≡ parted (now (area .entry)) (now (parts .entry)) (now (out .entry)) ⌝ }
 {
     let count = parts.len() / ENTRY_WORDS;
-    let mut index = 0;
-    while index < count {
-        let sum = checksum::checksum(packet::part(area, parts, index));
-        let at = CHECKSUM_BYTES * index;
-        write_u64(&mut out[at..], sum);
-        index += 1;
-    }
-}
-
-fn write_contents(area: &[u8], parts: &[u64], out: &mut [u8])
-    requires { ⌜ (room (now parts) ≤ firstOutside (now area) (now parts))
-        × (length (contents (partsOf (now area) (now parts))) ≤ length (now out)) ⌝ }
-    ensures { λ _. ⌜ now (out .exit)
-        ≡ over (contents (partsOf (now (area .entry)) (now (parts .entry)))) (now (out .entry)) ⌝ }
-{
-    let count = parts.len() / ENTRY_WORDS;
-    let mut at = 0;
+    let mut sum_at = 0;
+    let mut part_at = CHECKSUM_BYTES * count + CHECKSUM_BYTES;
     let mut index = 0;
     while index < count {
         let bytes = packet::part(area, parts, index);
-        write_bytes(&mut out[at..], bytes);
-        at += bytes.len();
+        let register = crc64_fast::copy_held(0, bytes, &mut out[part_at..]);
+        part_at += bytes.len();
+        write_u64(&mut out[sum_at..], crc64::swap_bytes(register));
+        sum_at += CHECKSUM_BYTES;
         index += 1;
     }
 }
@@ -134,11 +122,9 @@ fn write_body(area: &[u8], parts: &[u64], out: &mut [u8])
     let count = parts.len() / ENTRY_WORDS;
     write_sizes(parts, out);
     let sums = SIZE_BYTES * count;
-    write_sums(area, parts, &mut out[sums..]);
+    write_parts(area, parts, &mut out[sums..]);
     let size = PART_HEADER_SIZE * count;
     seal(size, out);
-    let contents = size + CHECKSUM_BYTES;
-    write_contents(area, parts, &mut out[contents..]);
 }
 
 fn write_fixed(packet_type: PacketType, flags: PacketFlags, id: Guid, count: u32, out: &mut [u8])

@@ -14,16 +14,16 @@ use Rattle.packet_read.proofs.fill.Statement.{statement}
 use Rattle.packet_read.proofs.fill.Tie as tie
 
 abbrev Inv-loop : tie.InvT-loop
-Inv-loop input count parts₀ sums at₀ index₀ parts at index = (index ≤ count) × (at ≡ start input count index) × (parts ≡ over (entriesFrom input count 0 index) parts₀)
+Inv-loop input count parts₀ stored at₀ index₀ parts at index = (index ≤ count) × (at ≡ start input count index) × (parts ≡ over (entriesFrom input count 0 index) parts₀)
 
 abbrev μ-loop : tie.MeasureT-loop
-μ-loop input count parts₀ sums at₀ index₀ parts at index = count - index
+μ-loop input count parts₀ stored at₀ index₀ parts at index = count - index
 
-mul-sums : tie.Need-mul-sums Inv-loop μ-loop
-mul-sums c = omega arith
+mul-stored : tie.Need-mul-stored Inv-loop μ-loop
+mul-stored c = omega arith
 
-add-sums : tie.Need-add-sums Inv-loop μ-loop
-add-sums c = omega arith
+add-stored : tie.Need-add-stored Inv-loop μ-loop
+add-stored c = omega arith
 
 mul-at : tie.Need-mul-at Inv-loop μ-loop
 mul-at c = omega arith
@@ -135,8 +135,8 @@ fill-spec =
     (tie.spec
     Inv-loop
     μ-loop
-    mul-sums
-    add-sums
+    mul-stored
+    add-stored
     mul-at
     add-at
     loop-holds

@@ -24,7 +24,7 @@ returns c =
     let type : ℕ = typeNumber (start .args .packet-type) in
     let flags : ℕ = start .args .flags .0 in
     let count : ℕ = start .args .count in
-    sealed-over (fixedFields type flags id count) (start .args .out .now) (length-fixed type flags id count) (start .pre) (c .before .before .before .before .before .before .write-fields .ensures) (c .before .before .seal .ensures)
+    sealed-over (fixedFields type flags id count) (start .args .out .now) (length-fixed type flags id count) (c .before .before .before .before .before .before .write-fields .ensures) (c .before .before .seal .ensures)
 
 pub write-fixed-spec : {M : Type 1} → statement M
 write-fixed-spec = tie.close (tie.spec write-fields-requires seal-requires same-length returns)
