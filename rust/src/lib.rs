@@ -8,6 +8,7 @@
 //! - [`yson`]: whether an Any or a Composite value is well formed, and the items of its outer map.
 //! - [`error`]: the error message of a failed call, which prints as a person reads it.
 //! - [`guid`] and [`crc64`]: the ids and the checksums of both.
+//! - [`shown`]: what others wrote, for a log or a terminal.
 //!
 //! Nothing here panics on any input, and no size that a peer declares is allocated before the
 //! bytes that justify it are there. Every refusal has a number, `code()`, the same in all of
@@ -47,6 +48,7 @@ pub mod crc64;
 pub mod error;
 pub mod guid;
 pub mod packet;
+pub mod shown;
 #[allow(unsafe_code)]
 mod sys;
 mod table;

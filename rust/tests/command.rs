@@ -199,8 +199,9 @@ fn values_are_shown_as_what_they_are() {
         Value::Boolean(true),
         Value::String("Zähne \"\\\n\u{1b}[31m\u{202e}".as_bytes()),
         Value::String(b"\xff"),
-        Value::Any(b"#"),
-        Value::Composite(b"[\x05]"),
+        Value::Any(b"{\x01\x02a=\x05}"),
+        Value::Composite(b"#"),
+        Value::Any(b"{\x01"),
     ]
     .into_iter()
     .zip(0..)
@@ -212,7 +213,8 @@ fn values_are_shown_as_what_they_are() {
     let results = format!(
         "packet 0 0 0 4-3-2-1 1\npart 0 {} guarded\nrowset 1\n\
          row 0 0=# 1=!-5 2=18446744073709551615u 3=1.5 4=NaN 5=%true \
-         6=\"Zähne \\\"\\\\\\n\\u{{1b}}[31m\\u{{202e}}\" 7=\"\\xff\" 8=any\"#\" 9=composite\"[\\u{{5}}]\"\nend {}\n",
+         6=\"Zähne \\\"\\\\\\n\\u{{1b}}[31m\\u{{202e}}\" 7=\"\\xff\" 8=any({{\"a\" = %true}}) 9=composite(#) \
+         10=any?(\"{{\\u{{1}}\")\nend {}\n",
         rowset.len(),
         bytes.len()
     );
@@ -299,6 +301,34 @@ fn values_in_yson() {
     );
     let deep = asked_with(&["yson", "-"], &b"[".repeat(65));
     assert_eq!((deep.status, &*deep.results), (1, "refused 64 21\n"));
+}
+
+#[test]
+fn error_messages_as_trees() {
+    let tree = "\
+error 1: Lookup failed
+    host = \"rpc-proxy-7\"
+    error 100: No such table
+        path = \"//home/terms/fisheries\"
+";
+    check(asked(&["error", "samples/lookup.error"]), 0, tree, "");
+    check(asked_with(&["error", "-"], b""), 0, "error 0\n", "");
+    check(
+        asked(&["error", "samples/cut.error"]),
+        1,
+        "refused 42 22\n",
+        &format!(
+            "cablefinch: samples/cut.error: not an error message: no field may stand so at byte 42\n    is it the \
+             protobuf message alone, to its end?\n    .. \\x04host\\x12\\r\\x01\\x16rpc-proxy-7\"5\\x08d\\x12\\rNo \
+             such table\\x1a ..\n{:40}^\n",
+            ""
+        ),
+    );
+    let deep = (0..16).fold(Vec::new(), |inner: Vec<u8>, _| {
+        [&[0x22, inner.len() as u8], &inner[..]].concat()
+    });
+    let refused = asked_with(&["error", "-"], &deep);
+    assert_eq!((refused.status, &*refused.results), (1, "refused 30 23\n"));
 }
 
 #[test]

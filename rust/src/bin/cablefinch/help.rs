@@ -5,7 +5,7 @@ use std::fmt::Write as _;
 
 /// What the command is, in a line.
 pub const ABOUT: &str =
-    "packets, rowsets, YSON, GUIDs and checksums of the YTsaurus bus, over a proved library";
+    "packets, rowsets, errors, GUIDs and checksums of the YTsaurus bus, over a proved library";
 
 /// What holds for every word.
 pub const CONVENTIONS: &[&str] = &[

@@ -4,14 +4,16 @@ use crate::arguments::Arguments;
 use crate::input::{self, Input, PIECE};
 use crate::screen::{Colour, Screen};
 use crate::words::{MAX_BYTES, MAX_PARTS, ROWS};
-use crate::{Stop, Verdict, shown};
+use crate::{Stop, Verdict};
 use cablefinch::guid::MAX_TEXT_LENGTH;
 use cablefinch::packet::{
     self, DEFAULT_MAX_PART_COUNT, Decoder, FIXED_HEADER_SIZE, Guard, MAX_PART_COUNT, Mode, Packet,
     PacketError, Part, Ready,
 };
+use cablefinch::shown::{Node, Quoted};
 use cablefinch::wire::{self, UnversionedValue, Value};
-use std::io::Write as _;
+use cablefinch::yson;
+use std::io::{self, Write as _};
 
 /// The most bytes that the proved program lists.
 const SHORT: usize = 65_536;
@@ -180,7 +182,7 @@ fn rows(part: &[u8], rowsets: &mut wire::Decoder, screen: &mut Screen) -> Result
     Ok(())
 }
 
-/// A value: its column, whether it is an aggregate, and what it is, written as in YSON's text form.
+/// A value: its column, whether it is an aggregate, and what it is, as in YSON's text form.
 fn put_value(text: &mut Vec<u8>, value: &UnversionedValue<'_>) {
     let mark = if value.aggregate { "!" } else { "" };
     let _ = write!(text, " {}={mark}", value.id);
@@ -190,12 +192,17 @@ fn put_value(text: &mut Vec<u8>, value: &UnversionedValue<'_>) {
         Value::Uint64(number) => write!(text, "{number}u"),
         Value::Double(number) => write!(text, "{number:?}"),
         Value::Boolean(truth) => write!(text, "%{truth}"),
-        Value::String(_) => Ok(()),
-        Value::Any(_) => write!(text, "any"),
-        Value::Composite(_) => write!(text, "composite"),
+        Value::String(bytes) => write!(text, "{}", Quoted(bytes)),
+        Value::Any(bytes) => put_node(text, "any", bytes),
+        Value::Composite(bytes) => put_node(text, "composite", bytes),
     };
-    if let Some(bytes) = value.value.bytes() {
-        shown::quoted(text, bytes);
+}
+
+/// What should be YSON; where it is none, a question mark and its bytes.
+fn put_node(text: &mut Vec<u8>, kind: &str, bytes: &[u8]) -> io::Result<()> {
+    match yson::check(bytes) {
+        Ok(_) => write!(text, "{kind}({})", Node(bytes)),
+        Err(_) => write!(text, "{kind}?({})", Quoted(bytes)),
     }
 }
 

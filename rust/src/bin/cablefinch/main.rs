@@ -5,6 +5,7 @@
 
 mod arguments;
 mod completion;
+mod error;
 mod guid;
 mod help;
 mod input;

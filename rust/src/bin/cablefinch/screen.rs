@@ -1,6 +1,7 @@
 //! Where results and words about them go: standard output and standard error, with colours and a line on
 //! the progress where they are a terminal.
 
+use crate::shown;
 use std::env;
 use std::fs::File;
 use std::io::{self, IsTerminal, Write};
@@ -88,6 +89,19 @@ impl Screen {
         self.flush()?;
         self.say(&format!("{name}: {message}"));
         Ok(())
+    }
+
+    /// The result where bytes are refused at a place, and why, with a caret under the place.
+    pub fn refuse(
+        &mut self,
+        name: &str,
+        bytes: &[u8],
+        (place, number): (usize, u32),
+        why: &str,
+    ) -> io::Result<()> {
+        self.paint(Colour::Red, "refused");
+        writeln!(self.text, " {place} {number}")?;
+        self.tell(name, &format!("{why}\n{}", shown::place(bytes, place)))
     }
 
     /// Says something. Where standard error is closed, nobody is there to be told.

@@ -3,7 +3,7 @@
 
 use crate::arguments::Arguments;
 use crate::screen::Screen;
-use crate::{Stop, Verdict, completion, guid, list, man, plain, sum, yson};
+use crate::{Stop, Verdict, completion, error, guid, list, man, plain, sum, yson};
 use std::ffi::OsStr;
 
 /// Something that the command can be asked.
@@ -154,8 +154,9 @@ pub const WORDS: &[Word] = &[
              refusal. Of several files each has a line `==` with its name first.",
             "With --rows a part that is a rowset has a line `rowset` with the number of rows, and then a \
              line `row` for each: its index, and `null` for a null row, `empty` for one without values, or \
-             its values, each a column, `=`, `!` where it is an aggregate, and the value. A part that is \
-             none has the line `no rowset` with the number of the refusal.",
+             its values, each a column, `=`, `!` where it is an aggregate, and the value. Any and Composite \
+             values are `any(..)` and `composite(..)`, with `?` before the bytes where they are no YSON. A part \
+             that is no rowset has the line `no rowset` with the number of the refusal.",
             "Files are read in pieces. Memory is that of the largest packet, whatever the file's length.",
             "Input of at most 65,536 bytes is listed as the proved program `list` lists it, under its \
              limits, 65,536 bytes and 2,048 parts a packet. Longer input is listed under those of the \
@@ -197,6 +198,21 @@ pub const WORDS: &[Word] = &[
         options: &[],
         examples: &["cablefinch yson samples/note.yson"],
         run: yson::run,
+    },
+    Word {
+        name: "error",
+        operands: "FILE",
+        count: (1, 1),
+        kind: Operand::File,
+        summary: "shows an error message from the cluster as a tree",
+        details: &[
+            "A file holds one TError, the protobuf message that a failed call answers with. Prints each error \
+             with its code, its text and its attributes, inner errors indented; or `refused` with the place \
+             where the message breaks and the number of the refusal.",
+        ],
+        options: &[],
+        examples: &["cablefinch error samples/lookup.error"],
+        run: error::run,
     },
     Word {
         name: "guid",

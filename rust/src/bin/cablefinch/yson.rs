@@ -3,7 +3,7 @@
 use crate::arguments::Arguments;
 use crate::input;
 use crate::screen::{Colour, Screen};
-use crate::{Stop, Verdict, shown};
+use crate::{Stop, Verdict};
 use cablefinch::yson;
 use std::io::Write as _;
 
@@ -23,12 +23,10 @@ pub fn run(arguments: &Arguments, screen: &mut Screen) -> Result<Verdict, Stop> 
             }
             Err(error) => error,
         };
+        // A check takes no table, so every refusal has its place.
         let place = error.place().unwrap_or(0);
-        screen.paint(Colour::Red, "refused");
-        let _ = writeln!(screen.text(), " {place} {}", error.code());
-        let advice = advice(&bytes, place);
-        let message = format!("{error}{advice}\n{}", shown::place(&bytes, place));
-        screen.tell(input.told(), &message)?;
+        let why = format!("{error}{}", advice(&bytes, place));
+        screen.refuse(input.told(), &bytes, (place, error.code()), &why)?;
         Ok(Verdict::Refused)
     })
 }
