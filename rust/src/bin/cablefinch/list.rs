@@ -209,7 +209,7 @@ fn put_node(text: &mut Vec<u8>, kind: &str, bytes: &[u8]) -> io::Result<()> {
 /// A line of packets or parts, put together without the machinery of `write!`: for small packets it takes
 /// longer than to read them.
 struct Line {
-    /// The longest line has a word, three numbers of 20 digits at most, and an id of 35 bytes.
+    /// The longest line is a packet's: a word, four numbers of at most 50 digits in all, an id of 35 bytes.
     room: [u8; 128],
     end: usize,
 }

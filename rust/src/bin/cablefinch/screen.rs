@@ -32,9 +32,10 @@ pub struct Screen {
 }
 
 struct Progress {
-    begun: Instant,
-    /// When it was shown last, where it stands on the terminal now.
-    shown: Option<Instant>,
+    /// When it is shown next.
+    due: Instant,
+    /// Whether it stands on the terminal now.
+    stands: bool,
 }
 
 impl Screen {
@@ -43,8 +44,8 @@ impl Screen {
         let wanted = obeys && env::var_os("NO_COLOR").is_none_or(|value| value.is_empty());
         let (results, words) = (io::stdout().is_terminal(), io::stderr().is_terminal());
         let progress = (obeys && words && !piped()).then(|| Progress {
-            begun: Instant::now(),
-            shown: None,
+            due: Instant::now() + PATIENCE,
+            stands: false,
         });
         Self {
             text: Vec::new(),
@@ -129,16 +130,11 @@ impl Screen {
             return;
         };
         let now = Instant::now();
-        let since = now.duration_since(progress.shown.unwrap_or(progress.begun));
-        let due = if progress.shown.is_some() {
-            PAUSE
-        } else {
-            PATIENCE
-        };
-        if since < due {
+        if now < progress.due {
             return;
         }
-        progress.shown = Some(now);
+        progress.due = now + PAUSE;
+        progress.stands = true;
         let of = match all {
             Some(all) => format!(" of {}", all / MEBI),
             None => String::new(),
@@ -150,7 +146,7 @@ impl Screen {
     /// Takes the line on the progress away, where it is shown.
     pub fn rest(&mut self) {
         if let Some(progress) = &mut self.progress
-            && progress.shown.take().is_some()
+            && std::mem::take(&mut progress.stands)
         {
             let _ = io::stderr().lock().write_all(b"\r\x1b[K");
         }
