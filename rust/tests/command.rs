@@ -41,6 +41,11 @@ fn program(name: &str) -> Command {
     program
 }
 
+/// Says something that is shown though the test passes, as what `eprintln` writes is not.
+fn say(message: &str) {
+    let _ = writeln!(std::io::stderr(), "command: {message}");
+}
+
 /// Whether a program is here; where it is not, a message says what was left out.
 fn has(name: &str, left_out: &str) -> bool {
     let here = program("sh")
@@ -48,7 +53,7 @@ fn has(name: &str, left_out: &str) -> bool {
         .output()
         .is_ok_and(|output| output.status.success());
     if !here {
-        eprintln!("no {name} here: {left_out} left out");
+        say(&format!("no {name} here: {left_out} left out"));
     }
     here
 }
@@ -939,9 +944,10 @@ fn proved() -> Option<Vec<String>> {
         .output()
         .is_ok_and(|output| output.stdout == b"end 0\n");
     if !works {
-        eprintln!(
-            "the proved program `list` is not at hand ({line:?}): holding the command against it is left out"
-        );
+        let line = line.join(" ");
+        say(&format!(
+            "the proved program `list` is not at hand ({line}): holding the command against it is left out"
+        ));
         return None;
     }
     Some(line)
@@ -1038,10 +1044,10 @@ fn command_time(file: &Path) -> Duration {
 
 /// The command beside the library on a file of 1 GiB: `cargo test --release --offline --test command -- --ignored
 /// --nocapture`. The library reads the same packets from memory, and prints nothing. Both by processor time, the
-/// least of three.
+/// least of five.
 #[cfg(target_os = "linux")]
 #[test]
-#[ignore = "it takes a file of 1 GiB and a minute"]
+#[ignore = "it takes a file of 1 GiB and some minutes"]
 fn a_gibibyte_of_packets_at_half_the_speed_of_the_library() {
     let file = Path::new(env!("CARGO_TARGET_TMPDIR")).join("gibibyte.bin");
     for (name, parts, size) in [
@@ -1062,7 +1068,7 @@ fn a_gibibyte_of_packets_at_half_the_speed_of_the_library() {
                 .expect("there is room for the file");
         }
         drop(output);
-        let library = |_| {
+        let library = || {
             let mut decoder = packet::Decoder::archive();
             let (begun, mut packets) = (thread_time(), 0);
             for _ in 0..times {
@@ -1079,9 +1085,13 @@ fn a_gibibyte_of_packets_at_half_the_speed_of_the_library() {
             assert_eq!(packets, times * (block.len() / packet.len()));
             thread_time() - begun
         };
-        let command = |_| command_time(&file);
-        let least = |times: [Duration; 3]| times.into_iter().min().unwrap_or_default();
-        let (library, command) = (least([0; 3].map(library)), least([0; 3].map(command)));
+        let command = || command_time(&file);
+        // In turn, so that what runs beside them is beside both.
+        let mut least = [Duration::MAX; 2];
+        for _ in 0..5 {
+            least = [least[0].min(library()), least[1].min(command())];
+        }
+        let [library, command] = least;
         let ratio = library.as_secs_f64() / command.as_secs_f64();
         let speed = |time: Duration| (times * block.len()) as f64 / time.as_secs_f64() / 1e6;
         println!(

@@ -5,7 +5,7 @@ use crate::input::{self, Input, PIECE};
 use crate::screen::{Colour, Screen};
 use crate::words::{MAX_BYTES, MAX_PARTS, ROWS};
 use crate::{Stop, Verdict};
-use cablefinch::guid::MAX_TEXT_LENGTH;
+use cablefinch::Guid;
 use cablefinch::packet::{
     self, DEFAULT_MAX_PART_COUNT, Decoder, FIXED_HEADER_SIZE, Guard, MAX_PART_COUNT, Mode, Packet,
     PacketError, Part, Ready,
@@ -80,7 +80,7 @@ impl Listing {
         let limits = self.limits(!long);
         loop {
             let offset = pieces.offset;
-            if !pieces.wait(1, screen)? {
+            if pieces.rest().is_empty() && !pieces.wait(1, screen)? {
                 screen.paint(Colour::Green, "end");
                 let _ = writeln!(screen.text(), " {offset}");
                 return Ok(Verdict::Right);
@@ -229,8 +229,7 @@ impl Line {
         self.number(offset, b' ');
         self.number(packet.packet_type as u64, b' ');
         self.number(u64::from(packet.flags.0), b' ');
-        self.put(packet.id.text(&mut [0; MAX_TEXT_LENGTH]));
-        self.put(b" ");
+        self.id(&packet.id);
         self.number(packet.parts.len() as u64, b'\n');
     }
 
@@ -261,16 +260,49 @@ impl Line {
 
     /// A number, and the byte behind it.
     fn number(&mut self, mut number: u64, after: u8) {
-        let digits = 1 + number.checked_ilog10().unwrap_or(0) as usize;
-        let room = &mut self.room[self.end..][..=digits];
-        room[digits] = after;
-        for digit in room[..digits].iter_mut().rev() {
-            *digit = b'0' + (number % 10) as u8;
-            number /= 10;
+        /// The most digits of a number.
+        const MOST: usize = 20;
+        if number < 10 {
+            self.put(&[b'0' + number as u8, after]);
+            return;
         }
-        self.end += room.len();
+        // Right to left before the byte behind it, two digits at a division; then as many bytes are copied as
+        // the longest number has, since a copy of a known length is no call.
+        let mut digits = [after; 2 * MOST + 1];
+        let mut from = MOST;
+        while number >= 10 {
+            from -= 2;
+            digits[from..][..2].copy_from_slice(&PAIRS[(number % 100) as usize]);
+            number /= 100;
+        }
+        if number > 0 {
+            from -= 1;
+            digits[from] = b'0' + number as u8;
+        }
+        self.room[self.end..][..=MOST].copy_from_slice(&digits[from..][..=MOST]);
+        self.end += MOST + 1 - from;
+    }
+
+    /// An id, and a space behind it.
+    fn id(&mut self, id: &Guid) {
+        // There is room for every line, so that there is for the longest text.
+        if let Some(room) = self.room[self.end..].first_chunk_mut() {
+            self.end += id.text(room).len();
+        }
+        self.put(b" ");
     }
 }
+
+/// The numbers below 100, of two digits each.
+const PAIRS: [[u8; 2]; 100] = {
+    let mut pairs = [[0; 2]; 100];
+    let mut number = 0;
+    while number < 100 {
+        pairs[number] = [b'0' + (number / 10) as u8, b'0' + (number % 10) as u8];
+        number += 1;
+    }
+    pairs
+};
 
 /// What to do about a refusal.
 fn advice(error: &PacketError, offset: u64) -> String {
