@@ -1,2 +1,4 @@
 pub mod Form
 pub mod Errors
+pub mod WrittenField
+pub mod Seen

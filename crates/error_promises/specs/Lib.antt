@@ -1,3 +1,4 @@
 -- What is guaranteed of error messages, by name.
 pub mod Form
 pub mod Errors
+pub mod Round
