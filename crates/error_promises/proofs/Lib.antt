@@ -2,3 +2,4 @@ pub mod Form
 pub mod Errors
 pub mod WrittenField
 pub mod Seen
+pub mod WrittenEntries
