@@ -3,3 +3,4 @@ pub mod Errors
 pub mod WrittenField
 pub mod Seen
 pub mod WrittenEntries
+pub mod WrittenErrors
