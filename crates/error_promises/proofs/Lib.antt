@@ -4,3 +4,4 @@ pub mod WrittenField
 pub mod Seen
 pub mod WrittenEntries
 pub mod WrittenErrors
+pub mod Round

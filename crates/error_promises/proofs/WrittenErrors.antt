@@ -121,7 +121,7 @@ module _ (area errors attributes s : List ℕ) (short : length s ≤ mostBytes) 
     behind-text (k ∷ ks) at stands size = with-dictionary (k ∷ ks) at stands size
 
   -- code and text before them
-  whole-read : (left d count i : ℕ) (ws : List ℕ) (end : ℕ) → end ≤ length s → ((at : ℕ) → Stands ws s at → at + length ws ≡ end → Holding left (d + 1) (i + 1) count i [] at end)
+  pub whole-read : (left d count i : ℕ) (ws : List ℕ) (end : ℕ) → end ≤ length s → ((at : ℕ) → Stands ws s at → at + length ws ≡ end → Holding left (d + 1) (i + 1) count i [] at end)
       → codeIn errors i ≤ 0xffff_ffff → (at : ℕ) → Stands (ownBytes area errors attributes i ++ ws) s at → at + length (ownBytes area errors attributes i ++ ws) ≡ end → Whole left d count i at end
   unfolding ownBytes partsWith wireType byError
   whole-read left d count i ws end reach inners code-low at stands size =
@@ -173,7 +173,7 @@ gap errors d (suc n) i =
     pick (d <? depthIn errors i) others 0
 
 module _ (errors : List ℕ) where
-  gap-deeper : (d n i : ℕ) → d < depthIn errors i → gap errors d (suc n) i ≡ suc (gap errors d n (i + 1))
+  pub gap-deeper : (d n i : ℕ) → d < depthIn errors i → gap errors d (suc n) i ≡ suc (gap errors d n (i + 1))
   unfolding gap
   gap-deeper d n i h = rw (lt-ltb d (depthIn errors i) h)
 
@@ -257,7 +257,7 @@ module _ {area errors attributes : List ℕ} (sound : Sound area errors attribut
       }
 
   -- no entry is more than one level deeper than the one before it
-  gap-next : (n i : ℕ) → i + suc n ≡ errorsIn errors → gap errors (depthIn errors i + 1) n (i + 1) ≡ 0
+  pub gap-next : (n i : ℕ) → i + suc n ≡ errorsIn errors → gap errors (depthIn errors i + 1) n (i + 1) ≡ 0
   unfolding gap
   gap-next zero i all = refl
   gap-next (suc n) i all =
