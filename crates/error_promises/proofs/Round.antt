@@ -23,7 +23,7 @@ use Rattle.error_tree.specs.Reading.{errorEntry, attributeEntry, reading}
 use Rattle.error_table.specs.Table.{errorsIn, attributesIn, depthIn, indexIn, tableOrder, firstBadError, firstBadAttribute}
 use Rattle.error_table.specs.Statement.{Sound}
 use Rattle.error_table.proofs.TableLaws.{tables-pass}
-use Rattle.error_table.proofs.SoundLaws.{code-fits, depth-good, depth-first, index-below}
+use Rattle.error_table.proofs.SoundLaws.{depth-good, depth-first, index-below}
 use Rattle.error_read.specs.declared.decode.Decoded.{Decoded}
 use Rattle.error_read.specs.declared.decode.Decoded.the-variants.{Read}
 use Rattle.error_read.specs.Statement.{Decodes}
@@ -59,7 +59,7 @@ module _ {area errors attributes : List ℕ} (sound : Sound area errors attribut
   abbrev others : ℕ
   others = errorsIn errors - 1
 
-  outermost : Whole area errors attributes s short levels 1 others 0 0 (length s)
+  outermost : Whole area errors attributes sound s short levels 1 others 0 0 (length s)
   unfolding errorBytes
   outermost =
       let some : 0 < errorsIn errors = sound .some in
@@ -67,9 +67,9 @@ module _ {area errors attributes : List ℕ} (sound : Sound area errors attribut
       let one : depthIn errors 0 ≡ 1 = depth-first sound in
       let next : gap errors 2 others 1 ≡ 0 = ap (λ (d : ℕ). gap errors (d + 1) others 1) (sym one) ∙ gap-next sound s short others 0 (omega arith) in
       let all : gap errors 1 others 1 ≡ others = gap-all others 1 (omega arith) (omega arith) in
-      whole-read area errors attributes s short levels 1 others 0 ws (length s) (omega arith)
+      whole-read area errors attributes sound s short levels 1 others 0 ws (length s) (omega arith)
       (λ at stands size. inners-read sound s short others levels 1 1 at (length s) refl (omega arith) (omega arith) (omega arith) stands size 1 others (omega arith) (omega arith) 0)
-      (code-fits sound 0 some) 0 (λ i below. rw (zero-add i) (ap (λ (l : List ℕ). getD l i 0) is)) (zero-add _ ∙ ap length (sym is))
+      some 0 (λ i below. rw (zero-add i) (ap (λ (l : List ℕ). getD l i 0) is)) (zero-add _ ∙ ap length (sym is))
 
   abbrev fs : List ℕ
   fs = fields errorFields s 0 (length s)
@@ -81,7 +81,7 @@ module _ {area errors attributes : List ℕ} (sound : Sound area errors attribut
   pub errors-told : seenErrors s 1 (tree s) ≡ errorsOver area errors (errorsIn errors)
   unfolding tree seenErrors listed
   errors-told =
-      let first : error (codeOf s fs) 1 (stretch s (placeOf 2 s fs) (lengthOf 2 s fs)) ≡ errorIn area errors 0 = λ k. error (outermost .code-is k) (sym (depth-first sound) k) (outermost .text-is k) in
+      let first : error (codeOf s fs) 1 (lengthOf 2 s fs) (stretch s (placeOf 2 s fs) (lengthOf 2 s fs)) ≡ errorIn area errors 0 = λ k. error (outermost .code-is k) (sym (depth-first sound) k) (outermost .text-size k) (outermost .text-is k) in
       let rest : seenErrors s 2 (parts levels s fs) ++ [] ≡ listed (errorIn area errors) others 1 = append-nil (seenErrors s 2 (parts levels s fs)) ∙ outermost .errors-are in
       let count : suc others ≡ errorsIn errors = omega (arith, sound .some) in
       (λ k. first k ∷ rest k) ∙ ap (λ (n : ℕ). listed (errorIn area errors) n 0) count

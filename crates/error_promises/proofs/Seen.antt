@@ -23,12 +23,12 @@ unfoldable pub seenErrors : List ℕ → ℕ → Parts → List Error
 seenErrors s depth none = []
 seenErrors s depth (attribute k kl v vl more) = seenErrors s depth more
 seenErrors s depth (inner code at n held more) =
-    error code depth (stretch s at n) ∷ (seenErrors s (depth + 1) held ++ seenErrors s depth more)
+    error code depth n (stretch s at n) ∷ (seenErrors s (depth + 1) held ++ seenErrors s depth more)
 
 -- attributes of the error number i and of those inside it, the first of which has the number `next`
 unfoldable pub seenRows : List ℕ → ℕ → ℕ → Parts → List Row
 seenRows s i next none = []
-seenRows s i next (attribute k kl v vl more) = row i (stretch s k kl) (stretch s v vl) ∷ seenRows s i next more
+seenRows s i next (attribute k kl v vl more) = row i kl (stretch s k kl) vl (stretch s v vl) ∷ seenRows s i next more
 seenRows s i next (inner code at n held more) =
     seenRows s next (next + 1) held ++ seenRows s i (next + 1 + errorCount held) more
 
@@ -68,7 +68,7 @@ module _ (s table : List ℕ) where
       let n-is : getD table (4 * i + 3) 0 ≡ n = word-at table _ (4 * i) 3 e in
       let inside : drop (4 * (i + 1)) table ≡ first ++ (second ++ rest) = behind-at table (code ∷ depth ∷ at ∷ n ∷ []) ((first ++ second) ++ rest) (4 * i) (4 * (i + 1)) e (omega arith) ∙ append-assoc first second rest in
       let behind : drop (4 * (i + 1 + a)) table ≡ second ++ rest = behind-at table first (second ++ rest) (4 * (i + 1)) (4 * (i + 1 + a)) inside (omega (arith, length-errorWords (depth + 1) held)) in
-      let here : errorIn s table i ≡ error code depth (stretch s at n) = rw (code-is, depth-is, at-is, n-is) in
+      let here : errorIn s table i ≡ error code depth n (stretch s at n) = rw (code-is, depth-is, at-is, n-is) in
       let others : listed (errorIn s table) (a + b) (i + 1) ≡ seenErrors s (depth + 1) held ++ seenErrors s depth more = listed-add (errorIn s table) a b (i + 1) ∙ rw (table-errors (depth + 1) held (i + 1) (second ++ rest) inside, table-errors depth more (i + 1 + a) rest behind) in
       rw count (λ j. here j ∷ others j)
 
@@ -84,7 +84,7 @@ module _ (s table : List ℕ) where
       let v-is : getD table (5 * k + 3) 0 ≡ v = word-at table _ (5 * k) 3 e in
       let vl-is : getD table (5 * k + 4) 0 ≡ vl = word-at table _ (5 * k) 4 e in
       let behind : drop (5 * (k + 1)) table ≡ attributeWords i next more ++ rest = behind-at table (i ∷ key ∷ kl ∷ v ∷ vl ∷ []) (attributeWords i next more ++ rest) (5 * k) (5 * (k + 1)) e (omega arith) in
-      let here : rowIn s table k ≡ row i (stretch s key kl) (stretch s v vl) = rw (index-is, key-is, kl-is, v-is, vl-is) in
+      let here : rowIn s table k ≡ row i kl (stretch s key kl) vl (stretch s v vl) = rw (index-is, key-is, kl-is, v-is, vl-is) in
       let others : listed (rowIn s table) (attributeCount more) (k + 1) ≡ seenRows s i next more = table-rows i next more (k + 1) rest behind in
       rw count (λ j. here j ∷ others j)
   table-rows i next (inner code at n held more) k rest e =
@@ -114,21 +114,21 @@ byError-add (suc n) m i rows =
     let next : i + suc n ≡ i + 1 + n = omega arith in
     rw (one, next) (ap (λ (l : List Row). ofError i rows ++ l) (byError-add n m (i + 1) rows) ∙ sym (append-assoc (ofError i rows) (byError n (i + 1) rows) (byError m (i + 1 + n) rows)))
 
-module _ (index : ℕ) (key value : List ℕ) (others : List Row) where
-  of-own : (i : ℕ) → index ≡ i → ofError i (row index key value ∷ others) ≡ row index key value ∷ ofError i others
+module _ (index m : ℕ) (key : List ℕ) (l : ℕ) (value : List ℕ) (others : List Row) where
+  of-own : (i : ℕ) → index ≡ i → ofError i (row index m key l value ∷ others) ≡ row index m key l value ∷ ofError i others
   unfolding ofError
   of-own i e = rw (eq-eqb index i e)
 
-  of-other : (i : ℕ) → (index ≡ i → ⊥) → ofError i (row index key value ∷ others) ≡ ofError i others
+  of-other : (i : ℕ) → (index ≡ i → ⊥) → ofError i (row index m key l value ∷ others) ≡ ofError i others
   unfolding ofError
   of-other i e = rw (ne-eqb index i e)
 
-  by-passed : (n i : ℕ) → index < i → byError n i (row index key value ∷ others) ≡ byError n i others
+  by-passed : (n i : ℕ) → index < i → byError n i (row index m key l value ∷ others) ≡ byError n i others
   unfolding byError
   by-passed zero i h = refl
   by-passed (suc n) i h = rw (of-other i (λ e. omega arith), by-passed n (i + 1) (omega arith))
 
-  by-one : (n i : ℕ) → i ≤ index → index < i + n → length (byError n i (row index key value ∷ others)) ≡ suc (length (byError n i others))
+  by-one : (n i : ℕ) → i ≤ index → index < i + n → length (byError n i (row index m key l value ∷ others)) ≡ suc (length (byError n i others))
   unfolding byError
   by-one zero i low high = absurd (omega arith)
   by-one (suc n) i low high =
@@ -136,8 +136,8 @@ module _ (index : ℕ) (key value : List ℕ) (others : List Row) where
       (λ (same : i ≡ index).
       rw (of-own i (sym same), by-passed n (i + 1) (omega arith)))
       (λ (less : i < index).
-      let rest : length (byError n (i + 1) (row index key value ∷ others)) ≡ suc (length (byError n (i + 1) others)) = by-one n (i + 1) (omega arith) (omega arith) in
-      let left : length (ofError i others ++ byError n (i + 1) (row index key value ∷ others)) ≡ length (ofError i others) + length (byError n (i + 1) (row index key value ∷ others)) = length-append (ofError i others) (byError n (i + 1) (row index key value ∷ others)) in
+      let rest : length (byError n (i + 1) (row index m key l value ∷ others)) ≡ suc (length (byError n (i + 1) others)) = by-one n (i + 1) (omega arith) (omega arith) in
+      let left : length (ofError i others ++ byError n (i + 1) (row index m key l value ∷ others)) ≡ length (ofError i others) + length (byError n (i + 1) (row index m key l value ∷ others)) = length-append (ofError i others) (byError n (i + 1) (row index m key l value ∷ others)) in
       let right : length (ofError i others ++ byError n (i + 1) others) ≡ length (ofError i others) + length (byError n (i + 1) others) = length-append (ofError i others) (byError n (i + 1) others) in
       rw (of-other i (λ e. omega arith)) (omega arith))
       (eq-or-lt-of-le low)
@@ -153,20 +153,28 @@ module _ (area attributes : List ℕ) where
   unfolding listed
   by-all n zero k good = rw (by-none n 0)
   by-all n (suc m) k good =
-      by-one (indexIn attributes k) (stretch area (keyIn attributes k) (keyLengthIn attributes k)) (stretch area (valueIn attributes k) (valueLengthIn attributes k)) (listed (rowIn area attributes) m (k + 1)) n 0 (omega arith) (omega (arith, good k (omega arith)))
+      by-one (indexIn attributes k) (keyLengthIn attributes k) (stretch area (keyIn attributes k) (keyLengthIn attributes k)) (valueLengthIn attributes k) (stretch area (valueIn attributes k) (valueLengthIn attributes k)) (listed (rowIn area attributes) m (k + 1)) n 0 (omega arith) (omega (arith, good k (omega arith)))
       ∙ ap suc (by-all n m (k + 1) (λ j below. good j (omega arith)))
+
+  abbrev keyBytes : ℕ → List ℕ
+  keyBytes k = stretch area (keyIn attributes k) (keyLengthIn attributes k)
+
+  abbrev valueBytes : ℕ → List ℕ
+  valueBytes k = stretch area (valueIn attributes k) (valueLengthIn attributes k)
 
   -- the rows ks, of the error number i
   unfoldable pub rowsAs : ℕ → List ℕ → List Row
   rowsAs i [] = []
-  rowsAs i (k ∷ ks) =
-      row i (stretch area (keyIn attributes k) (keyLengthIn attributes k)) (stretch area (valueIn attributes k) (valueLengthIn attributes k)) ∷ rowsAs i ks
+  rowsAs i (k ∷ ks) = row i (length (keyBytes k)) (keyBytes k) (length (valueBytes k)) (valueBytes k) ∷ rowsAs i ks
 
-  pub of-rows : (i n k : ℕ) → ofError i (listed (rowIn area attributes) n k) ≡ rowsAs i (rowsOf attributes i n k)
+  pub of-rows : (i n k : ℕ) → ((j : ℕ) → j < k + n → (length (keyBytes j) ≡ keyLengthIn attributes j) × (length (valueBytes j) ≡ valueLengthIn attributes j))
+      → ofError i (listed (rowIn area attributes) n k) ≡ rowsAs i (rowsOf attributes i n k)
   unfolding listed rowsAs rowsOf ofError
-  of-rows i zero k = refl
-  of-rows i (suc n) k = go (of-rows i n (k + 1)) (ℕ-discrete (indexIn attributes k) i)
+  of-rows i zero k long = refl
+  of-rows i (suc n) k long = go (of-rows i n (k + 1) (λ j below. long j (omega arith))) (long k (omega arith)) (ℕ-discrete (indexIn attributes k) i)
     where
-      go : ofError i (listed (rowIn area attributes) n (k + 1)) ≡ rowsAs i (rowsOf attributes i n (k + 1)) → Dec (indexIn attributes k ≡ i) → ofError i (listed (rowIn area attributes) (suc n) k) ≡ rowsAs i (rowsOf attributes i (suc n) k)
-      go rest (yes e) = rw (eq-eqb (indexIn attributes k) i e) (λ j. row (e j) (stretch area (keyIn attributes k) (keyLengthIn attributes k)) (stretch area (valueIn attributes k) (valueLengthIn attributes k)) ∷ rest j)
-      go rest (no e) = rw (ne-eqb (indexIn attributes k) i e) rest
+      go : ofError i (listed (rowIn area attributes) n (k + 1)) ≡ rowsAs i (rowsOf attributes i n (k + 1))
+          → (length (keyBytes k) ≡ keyLengthIn attributes k) × (length (valueBytes k) ≡ valueLengthIn attributes k)
+          → Dec (indexIn attributes k ≡ i) → ofError i (listed (rowIn area attributes) (suc n) k) ≡ rowsAs i (rowsOf attributes i (suc n) k)
+      go rest here (yes e) = rw (eq-eqb (indexIn attributes k) i e) (λ j. row (e j) (sym (here .0) j) (keyBytes k) (sym (here .1) j) (valueBytes k) ∷ rest j)
+      go rest here (no e) = rw (ne-eqb (indexIn attributes k) i e) rest

@@ -46,6 +46,8 @@ module _ (s : List ℕ) (short : length s ≤ mostBytes) where
   -- the attribute that the message from `at` to `end` is
   pub record ReadsAttribute (key value : List ℕ) (at end : ℕ) : Type 0 where
     pub form : Message attributeFields Anything s end at
+    pub key-size : lengthOf 1 s (fields attributeFields s at end) ≡ length key
+    pub value-size : lengthOf 2 s (fields attributeFields s at end) ≡ length value
     pub key-is : stretch s (placeOf 1 s (fields attributeFields s at end)) (lengthOf 1 s (fields attributeFields s at end)) ≡ key
     pub value-is : stretch s (placeOf 2 s (fields attributeFields s at end)) (lengthOf 2 s (fields attributeFields s at end)) ≡ value
 
@@ -74,6 +76,8 @@ module _ (s : List ℕ) (short : length s ≤ mostBytes) where
       let value-there : contentAt s next + length value ≤ length s = omega (arith, pb .ends) in
       record {
         form = field (placed-in attributeFields pa refl end reach far) tt (rw (pa .stop-at) (field (placed-in attributeFields pb refl end reach far-b) tt (rw (pb .stop-at) (reached last))));
+        key-size = rw list (first-of-two (valueAt s) s at next 0 (pa .number-at) (pb .number-at) ∙ pa .value-at);
+        value-size = rw list (second-of-two (valueAt s) s at next 0 (pa .number-at) (pb .number-at) ∙ pb .value-at);
         key-is =
             rw (list, first-of-two (contentAt s) s at next 0 (pa .number-at) (pb .number-at), first-of-two (valueAt s) s at next 0 (pa .number-at) (pb .number-at), pa .value-at)
             (stands-stretch key s (contentAt s at) (bytes-stand 0x0a (omega arith) (omega arith) refl key s at key-fits a-stands) key-there);
@@ -115,5 +119,5 @@ module _ (s : List ℕ) (short : length s ≤ mostBytes) where
         let others : ReadsEntries ks (at + length a) end = entries-read ks (at + length a) end b-stands (omega arith) reach in
         record {
           form = field (placed-in dictionaryFields pa refl end reach far) (λ n. one .form) (rw (pa .stop-at) (others .form));
-          rows-are = λ i next more. rw (placed-first dictionaryFields pa refl end reach far, eq-eqb (numberAt s at) 1 (pa .number-at)) (λ j. row i (one .key-is j) (one .value-is j) ∷ others .rows-are i next more j);
+          rows-are = λ i next more. rw (placed-first dictionaryFields pa refl end reach far, eq-eqb (numberAt s at) 1 (pa .number-at)) (λ j. row i (one .key-size j) (one .key-is j) (one .value-size j) (one .value-is j) ∷ others .rows-are i next more j);
         }

@@ -16,11 +16,12 @@ use Rattle.error_tree.specs.Message.{errorFields, dictionaryFields, wireType, f
 use Rattle.error_tree.specs.Tree.{Parts, inner, dictionary, fieldParts, partsWith, innerPart, parts, codeOf, placeOf, lengthOf, errorCount}
 use Rattle.error_tree.proofs.MessageLaws.{fields-end}
 use Rattle.error_tree.proofs.TreeLaws.{dictionary-errors}
-use Rattle.error_table.specs.Table.{errorsIn, codeIn, depthIn, textIn, textLengthIn, attributesIn, deepest}
+use Rattle.error_table.specs.Table.{errorsIn, codeIn, depthIn, textIn, textLengthIn, attributesIn, keyIn, keyLengthIn, valueIn, valueLengthIn, deepest}
 use Rattle.error_table.specs.Statement.{Sound}
-use Rattle.error_table.proofs.SoundLaws.{code-fits, depth-good}
+use Rattle.error_table.proofs.SoundLaws.{code-fits, text-inside, depth-good, key-inside, value-inside}
 use Rattle.error_write.specs.Written.{lead, delimited, allRows, entriesBytes, dictionaryBytes, ownBytes, innersBytes}
 use Rattle.error_write.specs.Writing.{mostBytes}
+use Rattle.error_write.proofs.LengthLaws.{length-stretch}
 use Rattle.error_promises.specs.Form.{Message, reached, field, Held, Entry, ErrorField}
 use Rattle.error_promises.specs.Round.{Error, error, Row, errorIn, rowsOver, listed, ofError, byError}
 use Rattle.error_promises.proofs.WrittenField.{stands-front, stands-back, stands-stretch, Placed, code-placed, bytes-placed, bytes-stand, placed-in, placed-first}
@@ -64,7 +65,7 @@ module _ (f : ℕ → ℕ) (number : ℕ) (s : List ℕ) (at : ℕ) (fs : List �
   unfolding latest
   latest-other e = rw (ne-eqb (numberAt s at) number e)
 
-module _ (area errors attributes s : List ℕ) (short : length s ≤ mostBytes) where
+module _ (area errors attributes : List ℕ) (sound : Sound area errors attributes) (s : List ℕ) (short : length s ≤ mostBytes) where
   abbrev rows : List Row
   rows = rowsOver area attributes (attributesIn attributes)
 
@@ -84,6 +85,7 @@ module _ (area errors attributes s : List ℕ) (short : length s ≤ mostBytes) 
   pub record Whole (left d count i : ℕ) (at end : ℕ) : Type 0 where
     pub form : Message errorFields (ErrorField left s) s end at
     pub code-is : codeOf s (fields errorFields s at end) ≡ codeIn errors i
+    pub text-size : lengthOf 2 s (fields errorFields s at end) ≡ textLengthIn errors i
     pub text-is : stretch s (placeOf 2 s (fields errorFields s at end)) (lengthOf 2 s (fields errorFields s at end)) ≡ stretch area (textIn errors i) (textLengthIn errors i)
     pub counted : errorCount (partsAt left at end) ≡ count
     pub errors-are : seenErrors s (d + 1) (partsAt left at end) ≡ listed (errorIn area errors) count (i + 1)
@@ -120,12 +122,20 @@ module _ (area errors attributes s : List ℕ) (short : length s ≤ mostBytes) 
     behind-text [] at stands size = inners at stands size
     behind-text (k ∷ ks) at stands size = with-dictionary (k ∷ ks) at stands size
 
+  row-sizes : (k : ℕ) → k < 0 + attributesIn attributes
+      → (length (stretch area (keyIn attributes k) (keyLengthIn attributes k)) ≡ keyLengthIn attributes k) × (length (stretch area (valueIn attributes k) (valueLengthIn attributes k)) ≡ valueLengthIn attributes k)
+  row-sizes k below = (
+    length-stretch area (keyIn attributes k) (keyLengthIn attributes k) (key-inside sound k (omega arith)),
+    length-stretch area (valueIn attributes k) (valueLengthIn attributes k) (value-inside sound k (omega arith)),
+  )
+
   -- code and text before them
   pub whole-read : (left d count i : ℕ) (ws : List ℕ) (end : ℕ) → end ≤ length s → ((at : ℕ) → Stands ws s at → at + length ws ≡ end → Holding left (d + 1) (i + 1) count i [] at end)
-      → codeIn errors i ≤ 0xffff_ffff → (at : ℕ) → Stands (ownBytes area errors attributes i ++ ws) s at → at + length (ownBytes area errors attributes i ++ ws) ≡ end → Whole left d count i at end
+      → i < errorsIn errors → (at : ℕ) → Stands (ownBytes area errors attributes i ++ ws) s at → at + length (ownBytes area errors attributes i ++ ws) ≡ end → Whole left d count i at end
   unfolding ownBytes partsWith wireType byError
-  whole-read left d count i ws end reach inners code-low at stands size =
+  whole-read left d count i ws end reach inners below at stands size =
       let code : ℕ = codeIn errors i in
+      let code-low : codeIn errors i ≤ 0xffff_ffff = code-fits sound i below in
       let text : List ℕ = stretch area (textIn errors i) (textLengthIn errors i) in
       let c : List ℕ = lead 0x08 code in
       let t : List ℕ = delimited 0x12 text in
@@ -159,10 +169,11 @@ module _ (area errors attributes s : List ℕ) (short : length s ≤ mostBytes) 
       record {
         form = field (placed-in errorFields pc refl end reach far-c) (plain-form left s at (omega arith)) (rw (pc .stop-at) (field (placed-in errorFields pt refl end reach far-t) (plain-form left s x (omega arith)) (rw (pt .stop-at) (rest .form))));
         code-is = rw first (omega arith);
+        text-size = second (valueAt s) ∙ pt .value-at ∙ length-stretch area (textIn errors i) (textLengthIn errors i) (text-inside sound i below);
         text-is = rw (second (contentAt s), second (valueAt s), pt .value-at) (stands-stretch text s (contentAt s x) (bytes-stand 0x12 (omega arith) (omega arith) refl text s x fits t-stands) there);
         counted = ap errorCount split ∙ rest .counted;
         errors-are = ap (seenErrors s (d + 1)) split ∙ rest .errors-are;
-        rows-are = ap (seenRows s i (i + 1)) split ∙ rest .rows-are ∙ ap (λ (l : List Row). l ++ byError count (i + 1) rows) (sym (of-rows area attributes i (attributesIn attributes) 0));
+        rows-are = ap (seenRows s i (i + 1)) split ∙ rest .rows-are ∙ ap (λ (l : List Row). l ++ byError count (i + 1) rows) (sym (of-rows area attributes i (attributesIn attributes) 0 row-sizes));
       }
 
 -- how many of n entries from the number i on are deeper than d, up to the first that is not
@@ -208,7 +219,7 @@ module _ (area errors attributes : List ℕ) (d n i : ℕ) where
 
 module _ {area errors attributes : List ℕ} (sound : Sound area errors attributes) (s : List ℕ) (short : length s ≤ mostBytes) where
   abbrev Holds : ℕ → ℕ → ℕ → ℕ → ℕ → ℕ → ℕ → Type 0
-  Holds left d first count i at end = Holding area errors attributes s short left d first count i [] at end
+  Holds left d first count i at end = Holding area errors attributes sound s short left d first count i [] at end
 
   -- nothing stands there
   none-read : (left d first i at end : ℕ) → end ≤ at → Holds left d first 0 i at end
@@ -225,7 +236,7 @@ module _ {area errors attributes : List ℕ} (sound : Sound area errors attribut
 
   -- an error, and those behind it
   one-read : (left d i a b at end : ℕ) (ws rest : List ℕ) → end ≤ length s → depthIn errors i ≡ d
-      → ((from to : ℕ) → Stands ws s from → from + length ws ≡ to → to ≤ length s → Whole area errors attributes s short left d a i from to)
+      → ((from to : ℕ) → Stands ws s from → from + length ws ≡ to → to ≤ length s → Whole area errors attributes sound s short left d a i from to)
       → ((from : ℕ) (j : ℕ) → Stands rest s from → from + length rest ≡ end → Holds (suc left) d (i + 1 + a) b j from end)
       → Stands (delimited 0x22 ws ++ rest) s at → at + length (delimited 0x22 ws ++ rest) ≡ end → (j : ℕ) → Holds (suc left) d i (suc (a + b)) j at end
   unfolding listed byError partsWith innerPart seenErrors seenRows errorCount wireType
@@ -238,7 +249,7 @@ module _ {area errors attributes : List ℕ} (sound : Sound area errors attribut
       let x-stands : Stands x s at = stands-front x rest s at stands in
       let placed : Placed 4 2 (length ws) (length ws) s at next = bytes-placed 0x22 (omega arith) (omega arith) refl ws s at fits x-stands in
       let far : next ≤ end = omega arith in
-      let whole : Whole area errors attributes s short left d a i (contentAt s at) (stopAt s at) = whole-of (contentAt s at) (stopAt s at) (bytes-stand 0x22 (omega arith) (omega arith) refl ws s at fits x-stands) (placed .ends ∙ sym (placed .stop-at)) (omega (arith, placed .stop-at)) in
+      let whole : Whole area errors attributes sound s short left d a i (contentAt s at) (stopAt s at) = whole-of (contentAt s at) (stopAt s at) (bytes-stand 0x22 (omega arith) (omega arith) refl ws s at fits x-stands) (placed .ends ∙ sym (placed .stop-at)) (omega (arith, placed .stop-at)) in
       let others : Holds (suc left) d (i + 1 + a) b j next end = rest-of next j (stands-back x rest s at stands) (omega arith) in
       let list : fields errorFields s at end ≡ at ∷ fields errorFields s next end = placed-first errorFields placed refl end reach far in
       let more : Parts = parts (suc left) s (fields errorFields s next end) in
@@ -247,7 +258,7 @@ module _ {area errors attributes : List ℕ} (sound : Sound area errors attribut
       let split : parts (suc left) s (fields errorFields s at end) ≡ inner (codeOf s fs) (placeOf 2 s fs) (lengthOf 2 s fs) held more = ap (parts (suc left) s) list ∙ inner-field (innerPart (suc left) s) s at more (placed .number-at) in
       let all : List Row = rowsOver area attributes (attributesIn attributes) in
       let second : seenRows s j (i + 1 + errorCount held) more ≡ byError b (i + 1 + a) all = ap (λ (k : ℕ). seenRows s j (i + 1 + k) more) (whole .counted) ∙ others .rows-are in
-      let here : error (codeOf s fs) d (stretch s (placeOf 2 s fs) (lengthOf 2 s fs)) ≡ errorIn area errors i = λ k. error (whole .code-is k) (sym deep k) (whole .text-is k) in
+      let here : error (codeOf s fs) d (lengthOf 2 s fs) (stretch s (placeOf 2 s fs) (lengthOf 2 s fs)) ≡ errorIn area errors i = λ k. error (whole .code-is k) (sym deep k) (whole .text-size k) (whole .text-is k) in
       record {
         form = field (placed-in errorFields placed refl end reach far) (inner-form left s at (placed .number-at) (whole .form)) (rw (placed .stop-at) (others .form));
         quiet = λ f number z low. rw list (latest-other f number s at (fields errorFields s next end) z (λ e. omega (arith, placed .number-at)) ∙ others .quiet f number z low);
@@ -301,9 +312,9 @@ module _ {area errors attributes : List ℕ} (sound : Sound area errors attribut
       let one : Holds (suc left) (e + 1) i (suc (a + b)) j at end =
       one-read left (e + 1) i a b at end (own ++ ws) rest reach (sym same)
       (λ f t st sz r.
-      whole-read area errors attributes s short left (e + 1) a i ws t r
+      whole-read area errors attributes sound s short left (e + 1) a i ws t r
       (λ g st′ sz′. inners-read n left (e + 1) (i + 1) g t (omega arith) (omega arith) (omega arith) r st′ sz′ (i + 1) a (omega arith) (omega arith) i)
-      (code-fits sound i (omega arith)) f st sz)
+      (omega arith) f st sz)
       (λ f k st sz. inners-read n (suc left) e (i + 1) f end levels (omega arith) (omega arith) reach st sz (i + 1 + a) b refl (omega arith) k)
       (subst (λ (l : List ℕ). Stands l s at) bytes stands) (ap (λ (l : List ℕ). at + length l) (sym bytes) ∙ size) j in
       let first-is : i ≡ first = omega arith in

@@ -15,23 +15,24 @@ use Rattle.error_write.specs.Writing.{mostBytes}
 use Rattle.error_write.specs.Statement.{Encodes}
 use Rattle.error_write.specs.declared.write.Encoded.the-variants.{Written}
 
--- an error: its code, its depth and the bytes of its text
+-- an error: its code, its depth, how long its text is and the bytes of it
 pub data Error : Type 0 where
-  error : (code depth : ℕ) → (text : List ℕ) → Error
+  error : (code depth size : ℕ) → (text : List ℕ) → Error
 
--- an attribute: which error's it is, and the bytes of its key and its value
+-- an attribute: which error's it is; how long its key is, and the bytes; how long its value is, and the bytes
 pub data Row : Type 0 where
-  row : (index : ℕ) → (key value : List ℕ) → Row
+  row : (index keySize : ℕ) → (key : List ℕ) → (valueSize : ℕ) → (value : List ℕ) → Row
 
 -- the error number i of a table over an area, and the attribute number k
 abbrev pub errorIn : List ℕ → List ℕ → ℕ → Error
 errorIn area errors i =
-    error (codeIn errors i) (depthIn errors i) (stretch area (textIn errors i) (textLengthIn errors i))
+    error (codeIn errors i) (depthIn errors i) (textLengthIn errors i)
+    (stretch area (textIn errors i) (textLengthIn errors i))
 
 abbrev pub rowIn : List ℕ → List ℕ → ℕ → Row
 rowIn area attributes k =
-    row (indexIn attributes k) (stretch area (keyIn attributes k) (keyLengthIn attributes k))
-    (stretch area (valueIn attributes k) (valueLengthIn attributes k))
+    row (indexIn attributes k) (keyLengthIn attributes k) (stretch area (keyIn attributes k) (keyLengthIn attributes k))
+    (valueLengthIn attributes k) (stretch area (valueIn attributes k) (valueLengthIn attributes k))
 
 -- what f says of n numbers from i on
 unfoldable pub listed : {A : Type 0} → (ℕ → A) → ℕ → ℕ → List A
@@ -48,9 +49,9 @@ rowsOver area attributes n = listed (rowIn area attributes) n 0
 -- the attributes of the error number i, in their order
 unfoldable pub ofError : ℕ → List Row → List Row
 ofError i [] = []
-ofError i (row index key value ∷ others) =
+ofError i (row index m key n value ∷ others) =
     let rest = ofError i others in
-    pick (index =? i) (row index key value ∷ rest) rest
+    pick (index =? i) (row index m key n value ∷ rest) rest
 
 -- those of n errors from the number i on: sorted by their error, the order within an error kept
 unfoldable pub byError : ℕ → ℕ → List Row → List Row
