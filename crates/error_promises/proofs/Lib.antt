@@ -5,3 +5,4 @@ pub mod Seen
 pub mod WrittenEntries
 pub mod WrittenErrors
 pub mod Round
+pub mod Dictionaries

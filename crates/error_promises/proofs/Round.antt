@@ -6,7 +6,7 @@ use mathlib.Core.Logic.{⊎-elim}
 use Prim.Native.Nat.{ℕ, zero, suc, _+_, _*_, _-_, _/_, _%_, _<_, _≤_}
 use native.Mathlib.Omega.{arith}
 use native.Mathlib.Nat.{zero-add, add-zero}
-use borrow.Author.Tests.{eqb-true, eqb-false, not-false, ltb-false}
+use borrow.Author.Tests.{eqb-true, eqb-false, not-false, le-ltb, ltb-false}
 use lib.ListN.{length, getD, take, drop}
 use lib.Seq.{take-at}
 use Rattle.words.specs.Answer.{Answer, accepted, afterwards}
@@ -29,9 +29,13 @@ use Rattle.error_read.specs.declared.decode.Decoded.the-variants.{Read}
 use Rattle.error_read.specs.Statement.{Decodes}
 use Rattle.error_write.specs.Written.{ownBytes, innersBytes, errorBytes}
 use Rattle.error_write.specs.Writing.{mostBytes, capped, needed, writing}
+use Rattle.error_write.specs.Paper.{encodedPaper}
+use Rattle.error_write.specs.declared.write.Encoded.{Encoded}
+use Rattle.error_write.specs.declared.write.Encoded.the-variants.{Written}
+use Rattle.error_write.proofs.Unique.{encode-error-unique}
 use Rattle.error_write.proofs.CappedLaws.{capped-small, capped-large}
 use Rattle.error_promises.specs.Form.{WellFormed}
-use Rattle.error_promises.specs.Errors.{Roomy}
+use Rattle.error_promises.specs.Errors.{Roomy, ErrorWritesExactly}
 use Rattle.error_promises.specs.Round.{Error, error, Row, errorIn, rowIn, listed, errorsOver, rowsOver, byError, ErrorRoundTrip}
 use Rattle.error_promises.proofs.Errors.{reads, error-accepts-exactly}
 use Rattle.error_promises.proofs.Seen.{seenErrors, seenRows, table-errors, table-rows, seen-rows-count, by-all}
@@ -135,6 +139,16 @@ writes-only area errors attributes room count e =
     let tables = silent (tableOrder area errors attributes) (refl, (refl, (refl, (refl, (refl, tt))))) (sym e) refl in
     let output = silent (roomLine Output size room ∷ []) (refl, tt) (tables .1) refl in
     (tables .0, ltb-false room size (output .0 .0), ap acceptedCount (sym (output .1)))
+
+pub error-writes-exactly : ErrorWritesExactly
+unfolding writing
+error-writes-exactly area errors attributes out out′ r encodes = (
+  (λ quiet fits.
+      let size : ℕ = needed area errors attributes in
+      let taken : accepted size [] ≡ writing area errors attributes (length out) = sym (silent-decides (tableOrder area errors attributes) _ quiet ∙ rw (le-ltb (length out) size fits)) in
+      ap (λ (p : Encoded × List ℕ). p .0) (encode-error-unique area errors attributes out (r, out′) (Written size, afterwards (writing area errors attributes (length out)) (errorBytes area errors attributes) out) encodes (taken, refl))),
+  (λ n e. writes-only area errors attributes (length out) n (sym (ap encodedPaper e) ∙ encodes .0)),
+)
 
 pub error-round-trip : ErrorRoundTrip
 error-round-trip area errors attributes out out′ count small encodes table rows table′ rows′ r errors-fit rows-fit decodes =

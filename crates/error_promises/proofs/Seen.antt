@@ -115,11 +115,11 @@ byError-add (suc n) m i rows =
     rw (one, next) (ap (λ (l : List Row). ofError i rows ++ l) (byError-add n m (i + 1) rows) ∙ sym (append-assoc (ofError i rows) (byError n (i + 1) rows) (byError m (i + 1 + n) rows)))
 
 module _ (index m : ℕ) (key : List ℕ) (l : ℕ) (value : List ℕ) (others : List Row) where
-  of-own : (i : ℕ) → index ≡ i → ofError i (row index m key l value ∷ others) ≡ row index m key l value ∷ ofError i others
+  pub of-own : (i : ℕ) → index ≡ i → ofError i (row index m key l value ∷ others) ≡ row index m key l value ∷ ofError i others
   unfolding ofError
   of-own i e = rw (eq-eqb index i e)
 
-  of-other : (i : ℕ) → (index ≡ i → ⊥) → ofError i (row index m key l value ∷ others) ≡ ofError i others
+  pub of-other : (i : ℕ) → (index ≡ i → ⊥) → ofError i (row index m key l value ∷ others) ≡ ofError i others
   unfolding ofError
   of-other i e = rw (ne-eqb index i e)
 

@@ -2,3 +2,4 @@
 pub mod Form
 pub mod Errors
 pub mod Round
+pub mod Dictionaries
