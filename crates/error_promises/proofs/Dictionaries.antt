@@ -26,8 +26,7 @@ use Rattle.error_promises.specs.Errors.{Roomy}
 use Rattle.error_promises.specs.Form.{WellFormed}
 use Rattle.error_promises.specs.Round.{Row, row, rowsOver, ofError}
 use Rattle.error_promises.specs.Dictionaries.{rowOf, entriesOf, dictionariesOf, messagesWith, messagesIn, messages, DictionariesAddUp}
-use Rattle.error_promises.proofs.Errors.{error-accepts-exactly}
-use Rattle.error_promises.proofs.Seen.{seenRows, of-own, of-other, table-rows}
+use Rattle.error_promises.proofs.Seen.{seenRows, read-told}
 
 of-append : (i : ℕ) (a b : List Row) → ofError i (a ++ b) ≡ ofError i a ++ ofError i b
 unfolding ofError
@@ -199,10 +198,6 @@ module _ (s : List ℕ) where
 
 pub dictionaries-add-up : DictionariesAddUp
 dictionaries-add-up s table rows table′ rows′ n m decodes =
-    let exact = error-accepts-exactly s table rows table′ rows′ (Read n m) decodes .1 n m refl in
-    let count : n ≡ errorCount (tree s) = exact .2 in
-    let size : m ≡ attributeCount (tree s) = exact .3 in
-    let after : rows′ ≡ over (attributeWords 0 0 (tree s)) rows = decodes .2 ∙ ap (λ (a : Answer). afterwards a (attributeWords 0 0 (tree s)) rows) (sym (decodes .0)) in
-    let told : rowsOver s rows′ m ≡ seenRows s 0 0 (tree s) = ap (rowsOver s rows′) size ∙ table-rows s rows′ 0 0 (tree s) 0 _ after in
-    let same : n ≡ length (messages s) = count ∙ tree-count s in
-    (same, λ i below. ap (ofError i) told ∙ tree-rows s i (omega arith))
+    let told = read-told s table rows table′ rows′ n m decodes in
+    let same : n ≡ length (messages s) = told .0 ∙ tree-count s in
+    (same, λ i below. ap (ofError i) (told .3) ∙ tree-rows s i (omega arith))

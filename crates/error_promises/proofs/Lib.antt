@@ -6,3 +6,4 @@ pub mod WrittenEntries
 pub mod WrittenErrors
 pub mod Round
 pub mod Dictionaries
+pub mod Unknown

@@ -38,7 +38,7 @@ use Rattle.error_promises.specs.Form.{WellFormed}
 use Rattle.error_promises.specs.Errors.{Roomy, ErrorWritesExactly}
 use Rattle.error_promises.specs.Round.{Error, error, Row, errorIn, rowIn, listed, errorsOver, rowsOver, byError, ErrorRoundTrip}
 use Rattle.error_promises.proofs.Errors.{reads, error-accepts-exactly}
-use Rattle.error_promises.proofs.Seen.{seenErrors, seenRows, table-errors, table-rows, seen-rows-count, by-all}
+use Rattle.error_promises.proofs.Seen.{seenErrors, seenRows, read-told, seen-rows-count, by-all}
 use Rattle.error_promises.proofs.WrittenErrors.{Whole, whole-read, gap, gap-deeper, gap-next, inners-read}
 
 -- tables that no rule of 18 refuses are sound
@@ -109,21 +109,17 @@ module _ {area errors attributes : List ℕ} (sound : Sound area errors attribut
     roomy : Roomy s table rows
     roomy = record { errors-fit = rw errors-back errors-fit; attributes-fit = rw rows-back rows-fit }
 
-    taken : reading s (length table) (length rows) ≡ accepted 0 (errorCount (tree s) ∷ attributeCount (tree s) ∷ [])
-    taken = reads s table rows written-form roomy
-
     pub read-is : r ≡ Read (errorsIn errors) (attributesIn attributes)
     read-is = error-accepts-exactly s table rows table′ rows′ r decodes .0 written-form roomy ∙ (λ k. Read (errors-back k) (rows-back k))
 
+    told : (errorsIn errors ≡ errorCount (tree s)) × (attributesIn attributes ≡ attributeCount (tree s)) × (errorsOver s table′ (errorsIn errors) ≡ seenErrors s 1 (tree s)) × (rowsOver s rows′ (attributesIn attributes) ≡ seenRows s 0 0 (tree s))
+    told = read-told s table rows table′ rows′ (errorsIn errors) (attributesIn attributes) (subst (λ (a : Decoded). Decodes s table rows a table′ rows′) read-is decodes)
+
     pub read-errors : errorsOver s table′ (errorsIn errors) ≡ errorsOver area errors (errorsIn errors)
-    read-errors =
-        let after : table′ ≡ over (errorWords 1 (tree s)) table = decodes .1 ∙ ap (λ (a : Answer). afterwards a (errorWords 1 (tree s)) table) taken in
-        ap (errorsOver s table′) (sym errors-back) ∙ table-errors s table′ 1 (tree s) 0 _ after ∙ errors-told
+    read-errors = told .2 ∙ errors-told
 
     pub read-rows : rowsOver s rows′ (attributesIn attributes) ≡ byError (errorsIn errors) 0 (rowsOver area attributes (attributesIn attributes))
-    read-rows =
-        let after : rows′ ≡ over (attributeWords 0 0 (tree s)) rows = decodes .2 ∙ ap (λ (a : Answer). afterwards a (attributeWords 0 0 (tree s)) rows) taken in
-        ap (rowsOver s rows′) (sym rows-back) ∙ table-rows s rows′ 0 0 (tree s) 0 _ after ∙ rows-told
+    read-rows = told .3 ∙ rows-told
 
 -- an output shorter than the most bytes holds what is written whole
 uncapped : (n room : ℕ) → capped n ≤ room → room < mostBytes → capped n ≡ n

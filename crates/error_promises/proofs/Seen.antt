@@ -10,13 +10,17 @@ use native.Mathlib.Decide.{ℕ-discrete}
 use borrow.Author.Tests.{eq-eqb, ne-eqb}
 use lib.ListN.{length, getD, drop, length-append}
 use lib.Seq.{getD-drop, drop-drop, drop-at}
-use Rattle.words.specs.Buffer.{stretch}
+use Rattle.words.specs.Answer.{Answer, afterwards}
+use Rattle.words.specs.Buffer.{stretch, over}
 use Rattle.words.specs.Decide.{pick, _=?_}
-use Rattle.error_tree.specs.Tree.{Parts, none, attribute, inner, errorCount, attributeCount, errorWords, attributeWords}
+use Rattle.error_tree.specs.Tree.{Parts, none, attribute, inner, tree, errorCount, attributeCount, errorWords, attributeWords}
+use Rattle.error_read.specs.Statement.{Decodes}
+use Rattle.error_read.specs.declared.decode.Decoded.the-variants.{Read}
 use Rattle.error_read.proofs.TableLaws.{length-errorWords, length-attributeWords}
 use Rattle.error_table.specs.Table.{indexIn, keyIn, keyLengthIn, valueIn, valueLengthIn}
 use Rattle.error_write.specs.Written.{rowsOf}
-use Rattle.error_promises.specs.Round.{Error, error, Row, row, errorIn, rowIn, listed, ofError, byError}
+use Rattle.error_promises.specs.Round.{Error, error, Row, row, errorIn, rowIn, listed, errorsOver, rowsOver, ofError, byError}
+use Rattle.error_promises.proofs.Errors.{error-accepts-exactly}
 
 -- errors at this depth and those inside them
 unfoldable pub seenErrors : List ℕ → ℕ → Parts → List Error
@@ -103,6 +107,19 @@ seen-rows-count s i next (attribute k kl v vl more) = omega (arith, seen-rows-co
 seen-rows-count s i next (inner code at n held more) =
     length-append (seenRows s next (next + 1) held) (seenRows s i (next + 1 + errorCount held) more)
     ∙ omega (arith, seen-rows-count s next (next + 1) held, seen-rows-count s i (next + 1 + errorCount held) more)
+
+-- What was read, both tables told by the tree
+pub read-told : (s table rows table′ rows′ : List ℕ) (n m : ℕ) → Decodes s table rows (Read n m) table′ rows′
+    → (n ≡ errorCount (tree s)) × (m ≡ attributeCount (tree s)) × (errorsOver s table′ n ≡ seenErrors s 1 (tree s)) × (rowsOver s rows′ m ≡ seenRows s 0 0 (tree s))
+read-told s table rows table′ rows′ n m decodes =
+    let exact = error-accepts-exactly s table rows table′ rows′ (Read n m) decodes .1 n m refl in
+    let errors-after : table′ ≡ over (errorWords 1 (tree s)) table = decodes .1 ∙ ap (λ (a : Answer). afterwards a (errorWords 1 (tree s)) table) (sym (decodes .0)) in
+    let rows-after : rows′ ≡ over (attributeWords 0 0 (tree s)) rows = decodes .2 ∙ ap (λ (a : Answer). afterwards a (attributeWords 0 0 (tree s)) rows) (sym (decodes .0)) in (
+      exact .2,
+      exact .3,
+      ap (errorsOver s table′) (exact .2) ∙ table-errors s table′ 1 (tree s) 0 _ errors-after,
+      ap (rowsOver s rows′) (exact .3) ∙ table-rows s rows′ 0 0 (tree s) 0 _ rows-after,
+    )
 
 -- Attributes by their error
 

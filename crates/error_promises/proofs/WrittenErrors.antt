@@ -57,11 +57,11 @@ inner-form left s at four held = ((λ e. absurd (omega arith)), (λ e. held))
 
 -- the last field of a number, field by field
 module _ (f : ℕ → ℕ) (number : ℕ) (s : List ℕ) (at : ℕ) (fs : List ℕ) (z : ℕ) where
-  latest-own : numberAt s at ≡ number → latest f number s (at ∷ fs) z ≡ latest f number s fs (f at)
+  pub latest-own : numberAt s at ≡ number → latest f number s (at ∷ fs) z ≡ latest f number s fs (f at)
   unfolding latest
   latest-own e = rw (eq-eqb (numberAt s at) number e)
 
-  latest-other : (numberAt s at ≡ number → ⊥) → latest f number s (at ∷ fs) z ≡ latest f number s fs z
+  pub latest-other : (numberAt s at ≡ number → ⊥) → latest f number s (at ∷ fs) z ≡ latest f number s fs z
   unfolding latest
   latest-other e = rw (ne-eqb (numberAt s at) number e)
 

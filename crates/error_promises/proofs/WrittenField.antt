@@ -128,7 +128,7 @@ module _ (tag : ℕ) (low : tag < 128) (some : 8 ≤ tag) (two : tag % 8 ≡ 2) 
               value-whole tag low (length ws) fits s at front end reach (omega arith),
               behind-size,
               value,
-              lt-ltb (at + 1 + length (varint (length ws)) + length ws) (end + 1) (omega arith)
+              lt-ltb (at + 1 + length (varint (length ws)) + length ws) (end + 1) (omega arith),
             );
       }
 

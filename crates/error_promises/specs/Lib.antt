@@ -3,3 +3,4 @@ pub mod Form
 pub mod Errors
 pub mod Round
 pub mod Dictionaries
+pub mod Unknown
