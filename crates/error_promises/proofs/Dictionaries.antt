@@ -1,7 +1,7 @@
 -- An error's rows are the attributes of all its dictionaries. Assumes nothing.
 use mathlib.Core.Path.{_≡_, refl, sym, _∙_, ap, subst}
 use mathlib.Core.Bool.{Bool, true, false}
-use mathlib.Core.List.{List, [], _∷_, _++_, append-nil, append-assoc}
+use mathlib.Core.List.{List, [], _∷_, _++_, append-nil}
 use mathlib.Core.Logic.{⊎-elim, _⊎_, inl, inr}
 use Prim.Native.Nat.{ℕ, zero, suc, _+_, _-_, _<_, _≤_}
 use native.Mathlib.Nat.{add-zero}
@@ -10,21 +10,13 @@ use native.Mathlib.Decide.{ℕ-discrete}
 use borrow.Author.Tests.{eq-eqb, ne-eqb}
 use lib.ListN.{length, getD, length-append, List·getD-append}
 use lib.Seq.{getD-append-add}
-use Rattle.words.specs.Answer.{Answer, accepted, afterwards}
-use Rattle.words.specs.Buffer.{over}
 use Rattle.words.specs.Decide.{pick, _=?_}
 use Rattle.words.proofs.DecideLaws.{le-or-gt}
 use Rattle.field.specs.Field.{numberAt}
 use Rattle.error_tree.specs.Message.{errorFields, dictionaryFields, attributeFields, fields, inside}
-use Rattle.error_tree.specs.Tree.{Parts, none, inner, attributeOf, dictionary, fieldParts, partsWith, innerPart, parts, levels, tree, codeOf, placeOf, lengthOf, errorCount, attributeCount, attributeWords}
-use Rattle.error_tree.specs.Reading.{reading}
+use Rattle.error_tree.specs.Tree.{Parts, none, inner, attributeOf, dictionary, fieldParts, partsWith, innerPart, parts, levels, tree, codeOf, placeOf, lengthOf, errorCount}
 use Rattle.error_tree.proofs.TreeLaws.{dictionary-errors}
-use Rattle.error_read.specs.Paper.{decodedPaper}
-use Rattle.error_read.specs.Statement.{Decodes}
-use Rattle.error_read.specs.declared.decode.Decoded.the-variants.{Read}
-use Rattle.error_promises.specs.Errors.{Roomy}
-use Rattle.error_promises.specs.Form.{WellFormed}
-use Rattle.error_promises.specs.Round.{Row, row, rowsOver, ofError}
+use Rattle.error_promises.specs.Round.{Row, row, ofError}
 use Rattle.error_promises.specs.Dictionaries.{rowOf, entriesOf, dictionariesOf, messagesWith, messagesIn, messages, DictionariesAddUp}
 use Rattle.error_promises.proofs.Seen.{seenRows, read-told}
 

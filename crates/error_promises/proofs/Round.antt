@@ -1,33 +1,31 @@
 -- What `encode_error` wrote is read back by `decode_error`. Assumes nothing.
 use mathlib.Core.Path.{_≡_, refl, sym, _∙_, ap, subst}
-use mathlib.Core.Bool.{Bool, true, false}
 use mathlib.Core.List.{List, [], _∷_, _++_, append-nil}
 use mathlib.Core.Logic.{⊎-elim}
-use Prim.Native.Nat.{ℕ, zero, suc, _+_, _*_, _-_, _/_, _%_, _<_, _≤_}
+use Prim.Native.Nat.{ℕ, zero, suc, _+_, _-_, _%_, _<_, _≤_}
 use native.Mathlib.Omega.{arith}
-use native.Mathlib.Nat.{zero-add, add-zero}
+use native.Mathlib.Nat.{zero-add}
 use borrow.Author.Tests.{eqb-true, eqb-false, not-false, le-ltb, ltb-false}
 use lib.ListN.{length, getD, take, drop}
 use lib.Seq.{take-at}
 use Rattle.words.specs.Answer.{Answer, accepted, afterwards}
 use Rattle.words.specs.Buffer.{stretch, over}
-use Rattle.words.specs.Decide.{Silent, decide, _⇒_, _=?_}
+use Rattle.words.specs.Decide.{Silent}
 use Rattle.words.specs.Paper.{roomLine}
 use Rattle.words.specs.declared.outcome.Room.the-variants.{Output}
 use Rattle.words.proofs.AcceptLaws.{silent, acceptedCount}
 use Rattle.words.proofs.DecideLaws.{le-or-gt, silent-decides}
-use Rattle.varint.specs.Round.{Stands}
 use Rattle.error_tree.specs.Message.{errorFields, fields}
-use Rattle.error_tree.specs.Tree.{Parts, levels, parts, tree, errorCount, attributeCount, errorWords, attributeWords, codeOf, placeOf, lengthOf}
-use Rattle.error_tree.specs.Reading.{errorEntry, attributeEntry, reading}
-use Rattle.error_table.specs.Table.{errorsIn, attributesIn, depthIn, indexIn, tableOrder, firstBadError, firstBadAttribute}
+use Rattle.error_tree.specs.Tree.{levels, parts, tree, errorCount, attributeCount, codeOf, placeOf, lengthOf}
+use Rattle.error_tree.specs.Reading.{errorEntry, attributeEntry}
+use Rattle.error_table.specs.Table.{errorsIn, attributesIn, depthIn, tableOrder, firstBadError, firstBadAttribute}
 use Rattle.error_table.specs.Statement.{Sound}
 use Rattle.error_table.proofs.TableLaws.{tables-pass}
 use Rattle.error_table.proofs.SoundLaws.{depth-good, depth-first, index-below}
 use Rattle.error_read.specs.declared.decode.Decoded.{Decoded}
 use Rattle.error_read.specs.declared.decode.Decoded.the-variants.{Read}
 use Rattle.error_read.specs.Statement.{Decodes}
-use Rattle.error_write.specs.Written.{ownBytes, innersBytes, errorBytes}
+use Rattle.error_write.specs.Written.{innersBytes, errorBytes}
 use Rattle.error_write.specs.Writing.{mostBytes, capped, needed, writing}
 use Rattle.error_write.specs.Paper.{encodedPaper}
 use Rattle.error_write.specs.declared.write.Encoded.{Encoded}
@@ -36,8 +34,8 @@ use Rattle.error_write.proofs.Unique.{encode-error-unique}
 use Rattle.error_write.proofs.CappedLaws.{capped-small, capped-large}
 use Rattle.error_promises.specs.Form.{WellFormed}
 use Rattle.error_promises.specs.Errors.{Roomy, ErrorWritesExactly}
-use Rattle.error_promises.specs.Round.{Error, error, Row, errorIn, rowIn, listed, errorsOver, rowsOver, byError, ErrorRoundTrip}
-use Rattle.error_promises.proofs.Errors.{reads, error-accepts-exactly}
+use Rattle.error_promises.specs.Round.{error, errorIn, listed, errorsOver, rowsOver, byError, ErrorRoundTrip}
+use Rattle.error_promises.proofs.Errors.{error-accepts-exactly}
 use Rattle.error_promises.proofs.Seen.{seenErrors, seenRows, read-told, seen-rows-count, by-all}
 use Rattle.error_promises.proofs.WrittenErrors.{Whole, whole-read, gap, gap-deeper, gap-next, inners-read}
 

@@ -12,7 +12,6 @@ use lib.ListN.{length, getD, drop, length-append}
 use lib.Seq.{getD-drop, drop-drop, drop-at}
 use Rattle.words.specs.Answer.{Answer, afterwards}
 use Rattle.words.specs.Buffer.{stretch, over}
-use Rattle.words.specs.Decide.{pick, _=?_}
 use Rattle.error_tree.specs.Tree.{Parts, none, attribute, inner, tree, errorCount, attributeCount, errorWords, attributeWords}
 use Rattle.error_read.specs.Statement.{Decodes}
 use Rattle.error_read.specs.declared.decode.Decoded.the-variants.{Read}

@@ -1,32 +1,27 @@
 -- A message with unknown fields put between reads alike. Assumes nothing.
 use mathlib.Core.Path.{_≡_, refl, sym, _∙_, ap, subst}
-use mathlib.Core.Bool.{Bool, true, false}
-use mathlib.Core.List.{List, [], _∷_, _++_}
-use mathlib.Core.Logic.{⊎-elim}
+use mathlib.Core.List.{List, _∷_, _++_}
 use Prim.Native.Nat.{ℕ, zero, suc, _+_, _-_, _%_, _<_, _≤_}
 use native.Mathlib.Omega.{arith}
 use native.Mathlib.Decide.{ℕ-discrete}
 use borrow.Author.Tests.{eq-eqb, ne-eqb}
 use lib.ListN.{length}
-use Rattle.words.specs.Answer.{Answer, accepted, afterwards}
-use Rattle.words.specs.Buffer.{stretch, over}
+use Rattle.words.specs.Buffer.{stretch}
 use Rattle.words.specs.Decide.{pick, _=?_}
 use Rattle.field.specs.Field.{numberAt, valueAt, contentAt, stopAt}
-use Rattle.error_tree.specs.Message.{errorFields, dictionaryFields, attributeFields, wholeIn, fields, inside, latest}
-use Rattle.error_tree.specs.Tree.{Parts, none, attribute, inner, attributeOf, dictionary, fieldParts, partsWith, errorOf, innerPart, parts, levels, tree, codeOf, placeOf, lengthOf, errorCount, attributeCount, errorWords, attributeWords}
-use Rattle.error_tree.specs.Reading.{reading}
+use Rattle.error_tree.specs.Message.{errorFields, dictionaryFields, attributeFields, fields, inside, latest}
+use Rattle.error_tree.specs.Tree.{Parts, none, attribute, inner, attributeOf, dictionary, fieldParts, partsWith, errorOf, innerPart, parts, levels, tree, errorCount, attributeCount}
 use Rattle.error_tree.proofs.MessageLaws.{fields-more, fields-end}
-use Rattle.error_table.specs.Table.{errorsIn, attributesIn}
 use Rattle.error_read.specs.Statement.{Decodes}
 use Rattle.error_read.specs.declared.decode.Decoded.{Decoded}
 use Rattle.error_read.specs.declared.decode.Decoded.the-variants.{Read}
 use Rattle.error_promises.specs.Form.{Message, reached, field, Held, Anything, Entry, ErrorField, WellFormed}
 use Rattle.error_promises.specs.Errors.{Roomy}
-use Rattle.error_promises.specs.Round.{Error, error, Row, row, errorsOver, rowsOver}
+use Rattle.error_promises.specs.Round.{error, row}
 use Rattle.error_promises.specs.Unknown.{Between, ended, put, kept, SameBytes, HeldBetween, SamePart, SameEntry, SameOwn, SameField, PutBetween, UnknownFieldsSkipped}
-use Rattle.error_promises.proofs.Errors.{reads, error-accepts-exactly}
+use Rattle.error_promises.proofs.Errors.{error-accepts-exactly}
 use Rattle.error_promises.proofs.Seen.{seenErrors, seenRows, seen-rows-count, read-told}
-use Rattle.error_promises.proofs.WrittenErrors.{latest-own, latest-other}
+use Rattle.error_promises.proofs.WrittenErrors.{latest-other}
 
 -- what is taken of two fields of one number
 module _ (a b number : ℕ) where

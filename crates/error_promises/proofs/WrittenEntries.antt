@@ -2,9 +2,9 @@
 use mathlib.Core.Path.{_≡_, refl, sym, _∙_, ap}
 use mathlib.Core.Bool.{Bool, true, false}
 use mathlib.Core.List.{List, [], _∷_, _++_}
-use Prim.Native.Nat.{ℕ, zero, suc, _+_, _-_, _/_, _%_, _<_, _≤_}
+use Prim.Native.Nat.{ℕ, _+_, _-_, _≤_}
 use native.Mathlib.Omega.{arith}
-use borrow.Author.Tests.{eq-eqb, ne-eqb}
+use borrow.Author.Tests.{eq-eqb}
 use lib.ListN.{length, length-append}
 use Rattle.words.specs.Buffer.{stretch}
 use Rattle.words.specs.Decide.{pick, _=?_}
@@ -17,7 +17,7 @@ use Rattle.error_table.specs.Table.{keyIn, keyLengthIn, valueIn, valueLengthIn}
 use Rattle.error_write.specs.Written.{lead, delimited, attributeBytes, entriesBytes}
 use Rattle.error_write.specs.Writing.{mostBytes}
 use Rattle.error_promises.specs.Form.{Message, reached, field, Anything, Entry}
-use Rattle.error_promises.specs.Round.{Error, row}
+use Rattle.error_promises.specs.Round.{row}
 use Rattle.error_promises.proofs.WrittenField.{stands-front, stands-back, stands-stretch, Placed, bytes-placed, bytes-stand, placed-in, placed-first}
 use Rattle.error_promises.proofs.Seen.{seenErrors, seenRows, rowsAs}
 

@@ -2,13 +2,13 @@
 use mathlib.Core.Path.{_≡_, refl, sym, _∙_, ap, subst}
 use mathlib.Core.List.{List, [], _∷_, _++_, append-assoc}
 use mathlib.Core.Logic.{⊎-elim, _⊎_, inl, inr}
-use Prim.Native.Nat.{ℕ, zero, suc, _+_, _-_, _/_, _%_, _<_, _≤_}
+use Prim.Native.Nat.{ℕ, zero, suc, _+_, _-_, _<_, _≤_}
 use native.Mathlib.Omega.{arith}
-use native.Mathlib.Nat.{add-zero, eq-or-lt-of-le}
+use native.Mathlib.Nat.{eq-or-lt-of-le}
 use borrow.Author.Tests.{lt-ltb, le-ltb, eq-eqb, ne-eqb}
 use lib.ListN.{length, length-append}
 use Rattle.words.specs.Buffer.{stretch}
-use Rattle.words.specs.Decide.{pick, _<?_, _=?_}
+use Rattle.words.specs.Decide.{pick, _<?_}
 use Rattle.words.proofs.DecideLaws.{le-or-gt}
 use Rattle.varint.specs.Round.{Stands}
 use Rattle.field.specs.Field.{numberAt, valueAt, contentAt, stopAt}

@@ -1,17 +1,17 @@
 -- A field that was written is read back wherever it stands: the one law of length-delimited fields, and that of the code. Assumes
 -- nothing.
-use mathlib.Core.Path.{_≡_, refl, sym, _∙_, ap}
+use mathlib.Core.Path.{_≡_, refl, _∙_, ap}
 use mathlib.Core.Bool.{Bool, true, false, _||_}
-use mathlib.Core.List.{List, [], _∷_, _++_}
-use Prim.Native.Nat.{ℕ, zero, suc, _+_, _-_, _/_, _%_, _<_, _≤_}
+use mathlib.Core.List.{List, _∷_, _++_}
+use Prim.Native.Nat.{ℕ, _+_, _-_, _/_, _%_, _<_, _≤_}
 use native.Mathlib.Nat.{add-zero, add-assoc}
 use native.Mathlib.Omega.{arith}
 use borrow.Author.Tests.{lt-ltb, eq-eqb}
-use lib.ListN.{length, getD, take, drop, length-append, length-drop, List·getD-append}
+use lib.ListN.{length, getD, drop, length-append, length-drop, List·getD-append}
 use lib.Seq.{getD-append-add, getD-take, getD-drop, length-take-le, ext-getD}
 use Rattle.words.specs.Buffer.{stretch}
 use Rattle.words.specs.Decide.{_=?_}
-use Rattle.varint.specs.Varint.{varintAt, varintSize, varintEnd, wholeVarint, varint}
+use Rattle.varint.specs.Varint.{varintAt, varintSize, wholeVarint, varint}
 use Rattle.varint.specs.Round.{Stands}
 use Rattle.varint.proofs.VarintLaws.{size-last, value-last, whole-is}
 use Rattle.varint.proofs.RoundLaws.{stands-tail, varint-value, varint-size, varint-whole}

@@ -1,5 +1,5 @@
--- Which attributes an error has: those of all dictionaries among its fields, in wire order. Document 02, A10: repeated
--- dictionaries add up. Assumes nothing.
+-- Which attributes an error has: those of all dictionaries among its fields, in wire order. Document 02, A10:
+-- "repeated dictionaries add up". Assumes nothing.
 use Prim.Native.Nat.{ℕ, zero, suc, _<_}
 use mathlib.Core.Path.{_≡_}
 use mathlib.Core.List.{List, [], _∷_, _++_}

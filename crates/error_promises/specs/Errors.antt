@@ -1,5 +1,5 @@
--- The promises of reading and writing errors: what is accepted, that a refusal changes nothing, which field counts.
--- Assumes nothing.
+-- The promises of reading and writing errors: what is accepted and what is written, that a refusal changes nothing,
+-- which field counts. Assumes nothing.
 use Prim.Native.Nat.{ℕ, _≤_, _/_, _<_}
 use mathlib.Core.Path.{_≡_}
 use mathlib.Core.List.{List, _∷_, _++_, List·Memᴰ}

@@ -1,6 +1,6 @@
 -- Writing errors and reading them back. Document 02, A10: "reading its output gives the errors back, each with its
--- attributes in order, offsets apart". An entry of a table without its offsets is what it says: the bytes in the place of
--- where they stand. Assumes nothing.
+-- attributes in order, offsets apart". An entry of a table without its offsets is what it says: the bytes in the
+-- place of where they stand. Assumes nothing.
 use Prim.Native.Nat.{ℕ, zero, suc, _+_, _≤_, _<_}
 use mathlib.Core.Path.{_≡_}
 use mathlib.Core.List.{List, [], _∷_, _++_}
@@ -31,7 +31,8 @@ errorIn area errors i =
 
 abbrev pub rowIn : List ℕ → List ℕ → ℕ → Row
 rowIn area attributes k =
-    row (indexIn attributes k) (keyLengthIn attributes k) (stretch area (keyIn attributes k) (keyLengthIn attributes k))
+    row (indexIn attributes k)
+    (keyLengthIn attributes k) (stretch area (keyIn attributes k) (keyLengthIn attributes k))
     (valueLengthIn attributes k) (stretch area (valueIn attributes k) (valueLengthIn attributes k))
 
 -- what f says of n numbers from i on
@@ -58,9 +59,9 @@ unfoldable pub byError : ℕ → ℕ → List Row → List Row
 byError zero i rows = []
 byError (suc n) i rows = ofError i rows ++ byError n (i + 1) rows
 
--- What `encode_error` wrote, `decode_error` reads into tables with room as it was: as many errors in the same order, each
--- with its code, depth and text, and as many attributes, sorted by their error. (A lent output is shorter than 2 ^ 63
--- bytes, so its size is no bound.)
+-- What `encode_error` wrote, `decode_error` reads into tables with room as it was: as many errors in the same order,
+-- each with its code, depth and text, and as many attributes, sorted by their error. (A lent output is shorter than
+-- 2 ^ 63 bytes, so its length bounds nothing. When it writes is `ErrorWritesExactly`.)
 abbrev pub ErrorRoundTrip : Type 0
 ErrorRoundTrip =
     (area errors attributes out out′ : List ℕ) (count : ℕ) → length out < mostBytes

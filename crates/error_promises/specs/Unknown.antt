@@ -1,6 +1,6 @@
--- Fields that a message does not know are skipped. Document 02, A10: a message with unknown fields put between reads alike,
--- offsets apart. What "put between" means is said field by field, over two inputs, for an error, its dictionaries, their
--- attributes and its inner errors. Assumes nothing.
+-- Fields that a message does not know are skipped (document 02, A10): a message with unknown fields put between reads
+-- alike, offsets apart. What "put between" means is said field by field, over two inputs, for an error, its
+-- dictionaries, their attributes and its inner errors. Assumes nothing.
 use Prim.Native.Nat.{ℕ, zero, suc, _<_, _≤_}
 use mathlib.Core.Path.{_≡_}
 use mathlib.Core.Bool.{true}
@@ -16,15 +16,17 @@ use Rattle.error_read.specs.declared.decode.Decoded.{Decoded}
 use Rattle.error_read.specs.declared.decode.Decoded.the-variants.{Read}
 use Rattle.error_promises.specs.Round.{errorsOver, rowsOver}
 
--- The message of t from a place on is that of s from a place on, with fields put between that it does not know: both end;
--- or such a field stands in t, whole, of any of the four wire types; or both have a field of one number that says the same
--- in both.
-pub data Between (known : ℕ) (Same : ℕ → ℕ → Type 0) (s : List ℕ) (end : ℕ) (t : List ℕ) (end′ : ℕ) : ℕ → ℕ → Type 0 where
+-- The message of t from a place on is that of s from a place on, with fields put between that it does not know: both
+-- end; or such a field stands in t, whole, of any of the four wire types; or both have a field of one number that
+-- says the same in both.
+pub data Between (known : ℕ) (Same : ℕ → ℕ → Type 0) (s : List ℕ) (end : ℕ) (t : List ℕ) (end′ : ℕ)
+    : ℕ → ℕ → Type 0 where
   ended : {at at′ : ℕ} → end ≤ at → end′ ≤ at′ → Between known Same s end t end′ at at′
-  put : {at at′ : ℕ} → wholeIn known t at′ end′ ≡ true → known < numberAt t at′ → Between known Same s end t end′ at (stopAt t at′)
+  put : {at at′ : ℕ} → wholeIn known t at′ end′ ≡ true → known < numberAt t at′
+      → Between known Same s end t end′ at (stopAt t at′) → Between known Same s end t end′ at at′
+  kept : {at at′ : ℕ} → wholeIn known s at end ≡ true → wholeIn known t at′ end′ ≡ true
+      → numberAt t at′ ≡ numberAt s at → Same at at′ → Between known Same s end t end′ (stopAt s at) (stopAt t at′)
       → Between known Same s end t end′ at at′
-  kept : {at at′ : ℕ} → wholeIn known s at end ≡ true → wholeIn known t at′ end′ ≡ true → numberAt t at′ ≡ numberAt s at → Same at at′
-      → Between known Same s end t end′ (stopAt s at) (stopAt t at′) → Between known Same s end t end′ at at′
 
 -- The two fields hold the same bytes, or such messages
 
