@@ -7,3 +7,5 @@ pub mod WrittenErrors
 pub mod Round
 pub mod Dictionaries
 pub mod Unknown
+pub mod Local
+pub mod Put

@@ -4,7 +4,7 @@
 use Prim.Native.Nat.{ℕ, zero, suc, _<_, _≤_}
 use mathlib.Core.Path.{_≡_}
 use mathlib.Core.Bool.{true}
-use mathlib.Core.List.{List}
+use mathlib.Core.List.{List, _++_}
 use lib.ListN.{length}
 use Rattle.words.specs.Buffer.{stretch}
 use Rattle.field.specs.Field.{numberAt, valueAt, contentAt, stopAt}
@@ -14,6 +14,7 @@ use Rattle.error_table.specs.Table.{errorsIn, attributesIn}
 use Rattle.error_read.specs.Statement.{Decodes}
 use Rattle.error_read.specs.declared.decode.Decoded.{Decoded}
 use Rattle.error_read.specs.declared.decode.Decoded.the-variants.{Read}
+use Rattle.error_promises.specs.Form.{WellFormed}
 use Rattle.error_promises.specs.Round.{errorsOver, rowsOver}
 
 -- The message of t from a place on is that of s from a place on, with fields put between that it does not know: both
@@ -70,3 +71,22 @@ UnknownFieldsSkipped =
     → (other others other′ others′ : List ℕ) (r : Decoded) → n ≤ errorsIn other → m ≤ attributesIn others
     → Decodes t other others r other′ others′
     → (r ≡ Read n m) × (errorsOver t other′ n ≡ errorsOver s table′ n) × (rowsOver t others′ m ≡ rowsOver s rows′ m)
+
+-- The same of bytes, in the outermost error: the bytes of one unknown field put where a field begins or the input ends.
+-- (What results is well formed, so that more can be put.)
+
+-- whole fields of s from a place on lead to `cut`
+pub data Leads (known : ℕ) (s : List ℕ) (cut : ℕ) : ℕ → Type 0 where
+  there : {at : ℕ} → at ≡ cut → Leads known s cut at
+  on : {at : ℕ} → wholeIn known s at (length s) ≡ true → Leads known s cut (stopAt s at) → Leads known s cut at
+
+-- the bytes u are one whole field that an error does not know
+pub record UnknownField (u : List ℕ) : Type 0 where
+  pub whole : wholeIn errorFields u 0 (length u) ≡ true
+  pub all : stopAt u 0 ≡ length u
+  pub high : errorFields < numberAt u 0
+
+abbrev pub BytesPutBetween : Type 0
+BytesPutBetween =
+    (a u b : List ℕ) → WellFormed (a ++ b) → Leads errorFields (a ++ b) (length a) 0 → UnknownField u
+    → PutBetween (a ++ b) (a ++ (u ++ b))
