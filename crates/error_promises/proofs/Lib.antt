@@ -5,7 +5,9 @@ pub mod Seen
 pub mod WrittenEntries
 pub mod WrittenErrors
 pub mod Round
+pub mod Sorted
 pub mod Dictionaries
 pub mod Unknown
 pub mod Local
 pub mod Put
+pub mod Examples

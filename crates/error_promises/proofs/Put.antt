@@ -8,12 +8,12 @@ use native.Mathlib.Omega.{arith}
 use lib.ListN.{length, getD, length-append, List·getD-append}
 use lib.Seq.{getD-append-add}
 use Rattle.words.specs.Buffer.{stretch}
-use Rattle.field.specs.Field.{numberAt, typeAt, valueAt, contentAt, stopAt, wholeField}
+use Rattle.field.specs.Field.{numberAt, valueAt, contentAt, stopAt}
 use Rattle.error_tree.specs.Message.{errorFields, dictionaryFields, attributeFields, wireType, wholeIn}
 use Rattle.error_tree.specs.Tree.{levels}
 use Rattle.error_tree.proofs.MessageLaws.{type-other, type-bytes}
-use Rattle.error_promises.specs.Form.{Message, reached, field, Held, Anything, Entry, ErrorField, WellFormed}
-use Rattle.error_promises.specs.Unknown.{Between, ended, put, kept, SameBytes, HeldBetween, SamePart, SameEntry, SameOwn, SameField, PutBetween, Leads, there, on, UnknownField, BytesPutBetween}
+use Rattle.error_promises.specs.Form.{Message, reached, field, Held, Anything, Entry, ErrorField}
+use Rattle.error_promises.specs.Unknown.{Between, ended, put, kept, SameBytes, HeldBetween, SamePart, SameEntry, SameOwn, SameField, Leads, there, on, UnknownField, BytesPutBetween}
 use Rattle.error_promises.proofs.Local.{Agrees, agrees-on, agrees-less, agrees-stretch, field-lies, bytes-fill, Copied, field-copied, copied-in, in-field, known-bytes}
 
 module _ (s t : List ℕ) where

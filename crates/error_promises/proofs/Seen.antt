@@ -139,7 +139,7 @@ module _ (index m : ℕ) (key : List ℕ) (l : ℕ) (value : List ℕ) (others :
   unfolding ofError
   of-other i e = rw (ne-eqb index i e)
 
-  by-passed : (n i : ℕ) → index < i → byError n i (row index m key l value ∷ others) ≡ byError n i others
+  pub by-passed : (n i : ℕ) → index < i → byError n i (row index m key l value ∷ others) ≡ byError n i others
   unfolding byError
   by-passed zero i h = refl
   by-passed (suc n) i h = rw (of-other i (λ e. omega arith), by-passed n (i + 1) (omega arith))
@@ -158,7 +158,7 @@ module _ (index m : ℕ) (key : List ℕ) (l : ℕ) (value : List ℕ) (others :
       rw (of-other i (λ e. omega arith)) (omega arith))
       (eq-or-lt-of-le low)
 
-by-none : (n i : ℕ) → byError n i [] ≡ []
+pub by-none : (n i : ℕ) → byError n i [] ≡ []
 unfolding byError ofError
 by-none zero i = refl
 by-none (suc n) i = by-none n (i + 1)

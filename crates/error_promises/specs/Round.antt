@@ -73,3 +73,10 @@ ErrorRoundTrip =
     × (errorsOver (take count out′) table′ (errorsIn errors) ≡ errorsOver area errors (errorsIn errors))
     × (rowsOver (take count out′) rows′ (attributesIn attributes)
     ≡ byError (errorsIn errors) 0 (rowsOver area attributes (attributesIn attributes)))
+
+-- so sorted, attributes that stood in the errors' order stand as they did
+abbrev pub SortedComeBack : Type 0
+SortedComeBack =
+    (area attributes : List ℕ) (n m : ℕ) → ((k : ℕ) → k < m → indexIn attributes k < n)
+    → ((k : ℕ) → k + 1 < m → indexIn attributes k ≤ indexIn attributes (k + 1))
+    → byError n 0 (rowsOver area attributes m) ≡ rowsOver area attributes m

@@ -72,8 +72,8 @@ UnknownFieldsSkipped =
     → Decodes t other others r other′ others′
     → (r ≡ Read n m) × (errorsOver t other′ n ≡ errorsOver s table′ n) × (rowsOver t others′ m ≡ rowsOver s rows′ m)
 
--- The same of bytes, in the outermost error: the bytes of one unknown field put where a field begins or the input ends.
--- (What results is well formed, so that more can be put.)
+-- The same of bytes, in the outermost error: the bytes of one unknown field put where a field begins or the input
+-- ends. (What results is well formed, so that more can be put.)
 
 -- whole fields of s from a place on lead to `cut`
 pub data Leads (known : ℕ) (s : List ℕ) (cut : ℕ) : ℕ → Type 0 where
