@@ -60,8 +60,8 @@ byError zero i rows = []
 byError (suc n) i rows = ofError i rows ++ byError n (i + 1) rows
 
 -- What `encode_error` wrote, `decode_error` reads into tables with room as it was: as many errors in the same order,
--- each with its code, depth and text, and as many attributes, sorted by their error. (A lent output is shorter than
--- 2 ^ 63 bytes, so its length bounds nothing. When it writes is `ErrorWritesExactly`.)
+-- each with its code, depth and text, and as many attributes, sorted by their error. (Every lent output is shorter
+-- than 2 ^ 63 bytes, so the bound excludes none. When it writes is `ErrorWritesExactly`.)
 abbrev pub ErrorRoundTrip : Type 0
 ErrorRoundTrip =
     (area errors attributes out out′ : List ℕ) (count : ℕ) → length out < mostBytes
