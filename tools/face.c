@@ -3,6 +3,7 @@
 #include "face.h"
 
 #include <stdio.h>
+#include <string.h>
 
 static int failures;
 
@@ -23,8 +24,13 @@ int main(void) {
     const uint8_t input[5] = {1, 2, 3, 4, 5};
     const uint8_t map[7] = {'{', 1, 2, 'a', '=', '#', '}'};
     uint64_t item[CABLEFINCH_ITEM_WORDS] = {0};
+    /* an error of code -1 with the text "no", the attribute a with the value "#", and an inner error of nothing */
+    const uint8_t whole[26] = {0x08, 0xff, 0xff, 0xff, 0xff, 0x0f, 0x12, 2,   'n',  'o', 0x1a, 8,    0x0a,
+                               6,    0x0a, 1,    'a',  0x12, 1,    '#',  0x22, 4,   0x08, 0,   0x12, 0};
+    uint8_t written[sizeof whole + 1];
+    uint64_t errors[2 * CABLEFINCH_ERROR_WORDS] = {0}, attribute[CABLEFINCH_ATTRIBUTE_WORDS] = {0};
 
-    expect("version", cablefinch_face_4() == CABLEFINCH_FACE);
+    expect("version", cablefinch_face_5() == CABLEFINCH_FACE);
     expect("checksum", cablefinch_checksum(NULL, 0) == 0);
     expect("update", cablefinch_update(7, NULL, 0) == 7);
     expect("finish", cablefinch_finish(0) == 0);
@@ -87,6 +93,40 @@ int main(void) {
     cablefinch_yson_items(&o, map, sizeof map, item, CABLEFINCH_ITEM_WORDS);
     IS(yson_items, CABLEFINCH_ACCEPTED, 0);
     expect("yson_items of one", o.values[0] == 1 && item[0] == 1 && item[1] == 4 && item[2] == 5 && item[3] == 6);
+    cablefinch_error_read(&o, NULL, 0, NULL, 0, NULL, 0);
+    IS(error_read, CABLEFINCH_REFUSED, CABLEFINCH_NO_ROOM);
+    expect("error_read without room", o.values[0] == CABLEFINCH_ERRORS && o.values[1] == 1 && o.values[2] == 0);
+    cablefinch_error_read(&o, whole, sizeof whole, errors, 2 * CABLEFINCH_ERROR_WORDS, NULL, 0);
+    IS(error_read, CABLEFINCH_REFUSED, CABLEFINCH_NO_ROOM);
+    expect("error_read without attributes", o.values[0] == CABLEFINCH_ATTRIBUTES && o.values[1] == 1 && errors[1] == 0);
+    cablefinch_error_read(&o, whole, sizeof whole - 1, NULL, 0, NULL, 0);
+    IS(error_read, CABLEFINCH_REFUSED, CABLEFINCH_BAD_MESSAGE);
+    expect("error_read cut", o.values[0] == 20);
+    cablefinch_error_read(&o, whole, sizeof whole, errors, 2 * CABLEFINCH_ERROR_WORDS, attribute,
+            CABLEFINCH_ATTRIBUTE_WORDS);
+    IS(error_read, CABLEFINCH_ACCEPTED, 0);
+    expect("error_read", o.values[0] == 2 && o.values[1] == 1 && (int32_t)(uint32_t)errors[0] == -1 && errors[1] == 1 &&
+            errors[2] == 8 && errors[3] == 2 && errors[5] == 2 && attribute[0] == 0 && attribute[1] == 16 &&
+            attribute[2] == 1 && attribute[3] == 19 && attribute[4] == 1);
+    cablefinch_error_size(&o, NULL, 0, NULL, 0, NULL, 0);
+    IS(error_size, CABLEFINCH_REFUSED, CABLEFINCH_BAD_TABLE);
+    expect("error_size of no error", o.values[0] == CABLEFINCH_NO_ERROR && o.values[1] == 0);
+    cablefinch_error_size(&o, whole, sizeof whole, errors, 2 * CABLEFINCH_ERROR_WORDS, attribute,
+            CABLEFINCH_ATTRIBUTE_WORDS);
+    IS(error_size, CABLEFINCH_ACCEPTED, 0);
+    expect("error_size", o.count == sizeof whole);
+    cablefinch_error_write(&o, NULL, 0, NULL, 0, NULL, 0, NULL, 0);
+    IS(error_write, CABLEFINCH_REFUSED, CABLEFINCH_BAD_TABLE);
+    cablefinch_error_write(&o, whole, sizeof whole, errors, 2 * CABLEFINCH_ERROR_WORDS, attribute,
+            CABLEFINCH_ATTRIBUTE_WORDS, NULL, 0);
+    IS(error_write, CABLEFINCH_REFUSED, CABLEFINCH_NO_ROOM);
+    expect("error_write without room", o.values[0] == CABLEFINCH_OUTPUT && o.values[1] == sizeof whole);
+    memset(written, 0xa5, sizeof written);
+    cablefinch_error_write(&o, whole, sizeof whole, errors, 2 * CABLEFINCH_ERROR_WORDS, attribute,
+            CABLEFINCH_ATTRIBUTE_WORDS, written, sizeof written);
+    IS(error_write, CABLEFINCH_ACCEPTED, 0);
+    expect("error_write", o.count == sizeof whole && memcmp(written, whole, sizeof whole) == 0 &&
+            written[sizeof whole] == 0xa5);
 
     expect("null part", cablefinch_part_state(sizeof input, parts, WORDS, 0) == CABLEFINCH_PART_NULL);
     expect("empty part", cablefinch_part_state(sizeof input, parts, WORDS, 1) == CABLEFINCH_PART_HERE);

@@ -800,6 +800,111 @@ fn notes(table: &mut Table, rowset_rate: f64) {
     }
 }
 
+/// Errors with a text of 40 bytes and three attributes each, of 8 and 20 bytes: their tables over an area.
+struct Errors {
+    area: Vec<u8>,
+    errors: Vec<u64>,
+    attributes: Vec<u64>,
+}
+
+const TEXT: usize = 40;
+const KEY: usize = 8;
+const NOTE: usize = 20;
+const EACH: usize = 3;
+
+impl Errors {
+    /// One outermost error, and below it one chain after another down to the deepest level. The rows of
+    /// attributes stand by error, or all first ones, then all second ones, then all third ones.
+    fn new(count: usize, sorted: bool) -> Self {
+        let depth = |index: usize| match index {
+            0 => 1,
+            index => 2 + (index - 1) as u64 % 15,
+        };
+        let per_error = TEXT + EACH * (KEY + NOTE);
+        let errors = (0..count).flat_map(|index| {
+            let place = (index * per_error) as u64;
+            [500 + index as u64 % 100, depth(index), place, TEXT as u64]
+        });
+        let row = |index: usize, which: usize| {
+            let place = (index * per_error + TEXT + which * (KEY + NOTE)) as u64;
+            let value = place + KEY as u64;
+            [index as u64, place, KEY as u64, value, NOTE as u64]
+        };
+        let rows = 0..EACH * count;
+        let attributes = match sorted {
+            true => rows.flat_map(|k| row(k / EACH, k % EACH)).collect(),
+            false => rows.flat_map(|k| row(k % count, k / count)).collect(),
+        };
+        Self {
+            area: noise(count * per_error),
+            errors: errors.collect(),
+            attributes,
+        }
+    }
+
+    fn written(&self) -> Vec<u8> {
+        let size = face::error_size(&self.area, &self.errors, &self.attributes);
+        let mut out = vec![0; size.count as usize];
+        let outcome = face::error_write(&self.area, &self.errors, &self.attributes, &mut out);
+        assert!(outcome.kind == face::ACCEPTED && outcome.count == size.count);
+        out
+    }
+}
+
+/// Error messages, of which the Rust's four files have no reader: how the time grows with the errors,
+/// and what attributes cost that do not stand by error.
+fn messages(table: &mut Table) {
+    for (name, count, batch) in [("10,000", 10_000, 4), ("20,000", 20_000, 2)] {
+        let of = Errors::new(count, true);
+        let bytes = of.written();
+        let mut errors = vec![0u64; 4 * count];
+        let mut attributes = vec![0u64; 5 * EACH * count];
+        let outcome = face::error_read(&bytes, &mut errors, &mut attributes);
+        assert!(outcome.values[..2] == [count as u64, (EACH * count) as u64]);
+        let name = format!("TError of {name} errors with three attributes each");
+        table.line(&format!("{name} read"), bytes.len(), None, || Times {
+            rust: f64::NAN,
+            port: time(
+                batch,
+                || (),
+                |()| face::error_read(&bytes, &mut errors, &mut attributes),
+            ),
+            wrapped: time(
+                batch,
+                || (),
+                |()| cablefinch::error::TError::read(&bytes).unwrap(),
+            ),
+        });
+        let mut out = vec![0; bytes.len()];
+        let read = cablefinch::error::TError::read(&bytes).unwrap();
+        assert!(read.encode().unwrap() == bytes);
+        table.line(&format!("{name} written"), bytes.len(), None, || Times {
+            rust: f64::NAN,
+            port: time(
+                batch,
+                || (),
+                |()| face::error_write(&of.area, &of.errors, &of.attributes, &mut out),
+            ),
+            wrapped: time(batch, || (), |()| read.encode().unwrap()),
+        });
+    }
+    for (name, count) in [("2,500", 2_500), ("5,000", 5_000)] {
+        let of = Errors::new(count, false);
+        let mut out = of.written();
+        assert!(out == Errors::new(count, true).written());
+        let name = format!("TError of {name} errors, attributes not by error, written");
+        table.line(&name, out.len(), None, || Times {
+            rust: f64::NAN,
+            port: time(
+                1,
+                || (),
+                |()| face::error_write(&of.area, &of.errors, &of.attributes, &mut out),
+            ),
+            wrapped: f64::NAN,
+        });
+    }
+}
+
 fn main() {
     let mut table = Table {
         wanted: std::env::args().skip(1).collect(),
@@ -812,6 +917,7 @@ fn main() {
     let rowset_rate = rowsets(&mut table);
     guids(&mut table);
     notes(&mut table, rowset_rate);
+    messages(&mut table);
     let (from, mut to) = (noise(1 << 26), vec![0u8; 1 << 26]);
     let copy = time(1, || (), |()| to.copy_from_slice(black_box(&from)));
     println!(

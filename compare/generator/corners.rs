@@ -2,6 +2,7 @@
 //! found missing once. They stand beside `edges`, from which the stored sample of `replay` is chosen.
 
 use crate::edges::{ID, NO_ID, header, rowset, word};
+use crate::errors;
 use crate::packets::{SIGNATURE, Wire, id_of, part_table};
 use crate::rowsets::NULL;
 use crate::sums;
@@ -23,6 +24,7 @@ pub fn list() -> Vec<String> {
     large_reads(&mut lines);
     lengths(&mut lines);
     yson::corners(&mut lines);
+    errors::corners(&mut lines);
     lines
 }
 

@@ -6,6 +6,7 @@
 mod corners;
 mod damaged;
 mod edges;
+mod errors;
 mod packets;
 mod random;
 mod rowsets;
@@ -14,6 +15,7 @@ mod sums;
 #[allow(dead_code)]
 #[path = "../text.rs"]
 mod text;
+mod varint;
 mod yson;
 
 use std::io::{self, BufWriter, Write};
@@ -25,7 +27,7 @@ use text::{hex, hex_or_dash};
 type Make = fn(&mut Random) -> String;
 
 /// Each kind with its share of a run.
-const KINDS: [(&str, u64, Make); 27] = [
+const KINDS: [(&str, u64, Make); 30] = [
     ("crc", 30, crc),
     ("checksum", 20, checksum),
     ("fold", 10, sums::fold),
@@ -52,6 +54,9 @@ const KINDS: [(&str, u64, Make); 27] = [
     ("value", 60, rowsets::value),
     ("plain", 50, rowsets::plain),
     ("yson", 60, yson::case),
+    ("error-read", 60, errors::read),
+    ("error-write", 40, errors::write),
+    ("error-size", 20, errors::size),
     ("bad", 2, bad),
 ];
 
@@ -78,6 +83,7 @@ fn main() {
         Some("corners") => fixed(corners::list(), count, &mut output),
         Some("huge") => edges::huge(count, &mut output),
         Some("yson-short") => fixed(yson::short(5), count, &mut output),
+        Some("error-short") => fixed(errors::short(5), count, &mut output),
         Some(kind) => match KINDS.iter().find(|entry| entry.0 == kind) {
             Some(&(_, _, make)) => one_kind(seed, count, make, &mut output),
             None => usage(),
@@ -94,7 +100,7 @@ fn main() {
 fn usage() -> ! {
     let kinds: Vec<&str> = KINDS.iter().map(|entry| entry.0).collect();
     eprintln!(
-        "usage: cases SEED COUNT [KIND], where KIND is examples, edges, corners, drawn, huge, yson-short, damaged, named or one of"
+        "usage: cases SEED COUNT [KIND], where KIND is examples, edges, corners, drawn, huge, yson-short, error-short, damaged, named or one of"
     );
     eprintln!("  {}", kinds.join(" "));
     exit(2);

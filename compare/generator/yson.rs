@@ -4,6 +4,7 @@
 
 use crate::random::Random;
 use crate::text::hex_or_dash;
+use crate::varint;
 
 /// A byte that begins each kind of token, but for the scalars of one byte; and 00, which begins none.
 const MARKS: [u8; 12] = *b"\x01\x02#;=[]{}<>\x00";
@@ -132,7 +133,7 @@ fn scalar(random: &mut Random, bytes: &mut Vec<u8>) {
         2 | 3 => {
             bytes.push(*random.pick(&[2, 6]));
             let number = random.word();
-            varint(random, number, bytes);
+            varint::put(random, number, bytes);
         }
         4 if random.once_in(8) => bytes.push(random.byte()),
         _ => string(random, bytes),
@@ -152,37 +153,8 @@ fn string(random: &mut Random, bytes: &mut Vec<u8>) {
         3 => 2 * length + 2,
         _ => 2 * length,
     };
-    varint(random, told, bytes);
+    varint::put(random, told, bytes);
     bytes.extend(random.content(length as usize));
-}
-
-/// A varint in as few bytes as there may be, or in up to ten; seldom in eleven or with bits above 64.
-fn varint(random: &mut Random, number: u64, bytes: &mut Vec<u8>) {
-    let least = shortest(number);
-    let size = match random.below(60) {
-        0 => 11,
-        1..=8 => least + random.below(11 - least as u64) as usize,
-        _ => least,
-    };
-    bytes.extend(varint_of(number, size));
-    if size == 10 && random.once_in(3) {
-        let last = bytes.len() - 1;
-        bytes[last] = *random.pick(&[0, 1, 2, 3, 0x7f]);
-    }
-}
-
-fn shortest(number: u64) -> usize {
-    (64 - (number | 1).leading_zeros() as usize).div_ceil(7)
-}
-
-/// The number in so many bytes.
-fn varint_of(number: u64, size: usize) -> Vec<u8> {
-    (0..size)
-        .map(|place| {
-            let bits = number.checked_shr(7 * place as u32).unwrap_or(0) as u8 & 0x7f;
-            bits | if place + 1 < size { 0x80 } else { 0 }
-        })
-        .collect()
 }
 
 /// Brackets of all kinds within one another, around the limit.
@@ -280,11 +252,11 @@ fn varints(lines: &mut Vec<String>) {
         u64::MAX - 1,
         u64::MAX,
     ] {
-        for size in shortest(number)..=11 {
+        for size in varint::shortest(number)..=11 {
             for mark in [1, 2, 6] {
                 for behind in ["", "a", "ab", "abc"] {
-                    let varint = varint_of(number, size);
-                    let bytes = [&[mark], &varint[..], behind.as_bytes()].concat();
+                    let length = varint::of(number, size);
+                    let bytes = [&[mark], &length[..], behind.as_bytes()].concat();
                     lines.push(line(0, &bytes));
                 }
             }

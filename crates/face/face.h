@@ -13,10 +13,10 @@ extern "C" {
 
 /* The version of this interface. The function's name carries it, and every file that includes this header refers to the
  * function: an archive of another version does not link. */
-#define CABLEFINCH_FACE 4
-uint64_t cablefinch_face_4(void);
+#define CABLEFINCH_FACE 5
+uint64_t cablefinch_face_5(void);
 #if defined(__GNUC__)
-static uint64_t (*const cablefinch_face_linked)(void) __attribute__((used)) = cablefinch_face_4;
+static uint64_t (*const cablefinch_face_linked)(void) __attribute__((used)) = cablefinch_face_5;
 #endif
 
 /* Answers. */
@@ -56,6 +56,8 @@ enum {
     CABLEFINCH_BAD_TABLE = 18,                /* which rule (below), where */
     CABLEFINCH_BAD_YSON = 20,                 /* where: the failing token's start, or the input's length */
     CABLEFINCH_TOO_DEEP = 21,                 /* where the bracket stands that would be one too many open */
+    CABLEFINCH_BAD_MESSAGE = 22,              /* where the field begins that is not whole or not to be taken */
+    CABLEFINCH_ERRORS_TOO_DEEP = 23,          /* where the field of an inner error begins that is one level too deep */
     CABLEFINCH_RETIRED_TYPE = 24              /* the type found; in live mode alone */
 };
 
@@ -68,20 +70,23 @@ enum {
     CABLEFINCH_GUID_FIELD_COUNT = 4 /* the fields are not four */
 };
 
-/* The first value of CABLEFINCH_NO_ROOM. It is answered only where everything else passes. Parts, rows, values and
- * items are counted in whole entries, the output in bytes. */
+/* The first value of CABLEFINCH_NO_ROOM. It is answered only where everything else passes. Parts, rows, values, items,
+ * errors and attributes are counted in whole entries, the output in bytes. */
 enum {
     CABLEFINCH_PARTS = 1,
     CABLEFINCH_ROWS = 2,
     CABLEFINCH_VALUES = 3,
     CABLEFINCH_OUTPUT = 4,
-    CABLEFINCH_ITEMS = 5
+    CABLEFINCH_ITEMS = 5,
+    CABLEFINCH_ERRORS = 6,
+    CABLEFINCH_ATTRIBUTES = 7
 };
 
 /* The first value of CABLEFINCH_BAD_TABLE. */
 enum {
     CABLEFINCH_NOT_WHOLE = 1, /* the words are no whole entries; at: how many whole ones there are */
     CABLEFINCH_NO_SUM = 2,    /* the rows' counts do not sum to the values; at: how many rows there are */
+    CABLEFINCH_NO_ERROR = 2,  /* of the tables of an error message: there is no error; at: 0 */
     CABLEFINCH_BAD_ENTRY = 3  /* an entry that cannot be written; at: the first such */
 };
 
@@ -99,7 +104,10 @@ enum {
 #define CABLEFINCH_PART_WORDS 3     /* the words of a part's entry: offset, length, stored checksum */
 #define CABLEFINCH_VALUE_WORDS 5    /* the words of a value's entry, below */
 #define CABLEFINCH_ITEM_WORDS 4     /* the words of an item of a map, below */
+#define CABLEFINCH_ERROR_WORDS 4    /* the words of an error, below */
+#define CABLEFINCH_ATTRIBUTE_WORDS 5 /* the words of an attribute, below */
 #define CABLEFINCH_MAX_OPEN_BRACKETS 64
+#define CABLEFINCH_MAX_ERROR_DEPTH 16
 #define CABLEFINCH_GUID_BYTES 16
 #define CABLEFINCH_GUID_TEXT_BYTES 35 /* the longest text of a GUID */
 
@@ -239,6 +247,28 @@ cablefinch_outcome *cablefinch_yson_check(cablefinch_outcome *o, const uint8_t *
 /* The same, with the items in the table, in their order. */
 cablefinch_outcome *cablefinch_yson_items(cablefinch_outcome *o, const uint8_t *input, size_t n, uint64_t *table,
         size_t words);
+
+/* Error messages from the cluster: a TError as protobuf. An error table has CABLEFINCH_ERROR_WORDS words for each
+ * error, each error before its inner ones: its code (the low 32 bits; as int32_t it is the cluster's number), its depth
+ * from 1 to CABLEFINCH_MAX_ERROR_DEPTH, where its text begins and how long that is. An attribute table has
+ * CABLEFINCH_ATTRIBUTE_WORDS words for each attribute: which error it belongs to, counted from 0, where its key begins
+ * and how long that is, and the same of its value. Texts and keys need not be UTF-8; values are not looked into, and
+ * the cluster writes them as YSON. What is absent lies at 0 and has length 0. */
+
+/* Reads the TError that the input is, all of it; values: how many errors, how many attributes. Attributes stand in the
+ * order of the input, which need not be that of their errors. A field that is not whole, or may not be taken, is
+ * refused with CABLEFINCH_BAD_MESSAGE, an inner error below the deepest level with CABLEFINCH_ERRORS_TOO_DEEP. */
+cablefinch_outcome *cablefinch_error_read(cablefinch_outcome *o, const uint8_t *input, size_t n,
+        uint64_t *errors, size_t error_words, uint64_t *attributes, size_t attribute_words);
+/* count: how many bytes cablefinch_error_write would write, at most 2^64-1, however much room there is. */
+cablefinch_outcome *cablefinch_error_size(cablefinch_outcome *o, const uint8_t *area, size_t n,
+        const uint64_t *errors, size_t error_words, const uint64_t *attributes, size_t attribute_words);
+/* Writes the TError of two tables whose texts, keys and values lie in the area; count: its bytes. An error's attributes
+ * are all entries that name it, in the table's order. Where the table is sorted by error, the time grows with its
+ * length; else the whole table is looked through for each error. */
+cablefinch_outcome *cablefinch_error_write(cablefinch_outcome *o, const uint8_t *area, size_t n,
+        const uint64_t *errors, size_t error_words, const uint64_t *attributes, size_t attribute_words, uint8_t *out,
+        size_t room);
 
 #ifdef __cplusplus
 }

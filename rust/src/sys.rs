@@ -31,7 +31,7 @@ pub(crate) const MORE: u64 = 1;
 mod raw {
     use super::Outcome;
     unsafe extern "C" {
-        pub(super) fn cablefinch_face_4() -> u64;
+        pub(super) fn cablefinch_face_5() -> u64;
         pub(super) fn cablefinch_checksum(bytes: *const u8, n: usize) -> u64;
         pub(super) fn cablefinch_update(register: u64, bytes: *const u8, n: usize) -> u64;
         pub(super) fn cablefinch_finish(register: u64) -> u64;
@@ -56,6 +56,9 @@ mod raw {
         pub(super) fn cablefinch_is_plain(input: *const u8, n: usize) -> bool;
         pub(super) fn cablefinch_yson_check(o: *mut Outcome, input: *const u8, n: usize) -> *mut Outcome;
         pub(super) fn cablefinch_yson_items(o: *mut Outcome, input: *const u8, n: usize, table: *mut u64, words: usize) -> *mut Outcome;
+        pub(super) fn cablefinch_error_read(o: *mut Outcome, input: *const u8, n: usize, errors: *mut u64, error_words: usize, attributes: *mut u64, attribute_words: usize) -> *mut Outcome;
+        pub(super) fn cablefinch_error_size(o: *mut Outcome, area: *const u8, n: usize, errors: *const u64, error_words: usize, attributes: *const u64, attribute_words: usize) -> *mut Outcome;
+        pub(super) fn cablefinch_error_write(o: *mut Outcome, area: *const u8, n: usize, errors: *const u64, error_words: usize, attributes: *const u64, attribute_words: usize, out: *mut u8, room: usize) -> *mut Outcome;
     }
 }
 
@@ -87,7 +90,7 @@ macro_rules! ask {
 /// Named by every program over this crate, called by none: an archive of another version of the
 /// interface lacks the function, so that the program does not link.
 #[used]
-static VERSION: unsafe extern "C" fn() -> u64 = raw::cablefinch_face_4;
+static VERSION: unsafe extern "C" fn() -> u64 = raw::cablefinch_face_5;
 
 pub(crate) fn checksum(bytes: &[u8]) -> u64 {
     // SAFETY: a slice's pointer and length, only read.
@@ -207,4 +210,21 @@ pub(crate) fn yson_check(input: &[u8]) -> Outcome {
 
 pub(crate) fn yson_items(input: &[u8], table: &mut [u64]) -> Outcome {
     ask!(cablefinch_yson_items [input] [mut table])
+}
+
+pub(crate) fn error_read(input: &[u8], errors: &mut [u64], attributes: &mut [u64]) -> Outcome {
+    ask!(cablefinch_error_read [input] [mut errors] [mut attributes])
+}
+
+pub(crate) fn error_size(area: &[u8], errors: &[u64], attributes: &[u64]) -> Outcome {
+    ask!(cablefinch_error_size[area][errors][attributes])
+}
+
+pub(crate) fn error_write(
+    area: &[u8],
+    errors: &[u64],
+    attributes: &[u64],
+    out: &mut [u8],
+) -> Outcome {
+    ask!(cablefinch_error_write [area] [errors] [attributes] [mut out])
 }

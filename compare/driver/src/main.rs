@@ -17,10 +17,12 @@ use text::{
 };
 
 const NULL: u64 = u64::MAX;
-/// The words of a part, of a value and of an item in a table.
+/// The words of a part, of a value, of an item, of an error and of an attribute in a table.
 const PART: u64 = 3;
 const VALUE: u64 = 5;
 const ITEM: u64 = 4;
+const ERROR: u64 = 4;
+const ATTRIBUTE: u64 = 5;
 /// The modes by the numbers of `face.h`.
 const ARCHIVE: u64 = 0;
 const LIVE: u64 = 1;
@@ -140,6 +142,20 @@ fn answer(line: &[u8]) -> Answer {
             u8::from(face::is_plain(&read_bytes(bytes)?))
         )),
         (b"yson", [room, bytes]) => yson(number(room)?, &read_bytes(bytes)?),
+        (b"error-read", [errors, attributes, bytes]) => {
+            error_read(number(errors)?, number(attributes)?, &read_bytes(bytes)?)
+        }
+        (b"error-write", [room, area, errors, attributes]) => error_write(
+            number(room)?,
+            &read_bytes(area)?,
+            &read_words(errors)?,
+            &read_words(attributes)?,
+        ),
+        (b"error-size", [area, errors, attributes]) => {
+            let (errors, attributes) = (read_words(errors)?, read_words(attributes)?);
+            let outcome = face::error_size(&read_bytes(area)?, &errors, &attributes);
+            Ok(or_refusal(&outcome, || format!("ok {}", outcome.count)))
+        }
         _ => Err(BadCase),
     }
 }
@@ -222,7 +238,7 @@ fn table(words: u64, most: usize) -> Vec<u64> {
 /// How many values a refusal's number carries.
 fn carried(number: u64) -> usize {
     match number {
-        1 | 2 | 3 | 10 | 12 | 13 | 14 | 15 | 20 | 21 | 24 => 1,
+        1 | 2 | 3 | 10 | 12 | 13 | 14 | 15 | 20..=24 => 1,
         4 | 5 | 6 | 8 | 9 | 11 | 16 | 18 => 2,
         7 | 17 => 3,
         _ => 0,
@@ -531,4 +547,58 @@ fn yson(room: u64, input: &[u8]) -> Answer {
         format!("ok {count} {}", words(items)),
         words_kept(rest),
     ))
+}
+
+// Error messages.
+
+fn error_read(errors: u64, attributes: u64, input: &[u8]) -> Answer {
+    // An error and an attribute have two bytes at least, but for the outermost error.
+    let most = input.len() / 2 + 8;
+    let mut errors = table(errors.saturating_mul(ERROR), ERROR as usize * most);
+    errors.extend(vec![FILL_WORD; input.len() % ERROR as usize]);
+    let mut attributes = table(
+        attributes.saturating_mul(ATTRIBUTE),
+        ATTRIBUTE as usize * most,
+    );
+    attributes.extend(vec![FILL_WORD; input.len() % ATTRIBUTE as usize]);
+    let outcome = face::error_read(input, &mut errors, &mut attributes);
+    if outcome.kind != face::ACCEPTED {
+        let kept = words_kept(&errors) && words_kept(&attributes);
+        return Ok(mark(or_refusal(&outcome, String::new), kept));
+    }
+    let [error_count, attribute_count, ..] = outcome.values;
+    let (errors, errors_rest) = errors.split_at((ERROR * error_count) as usize);
+    let (attributes, attributes_rest) = attributes.split_at((ATTRIBUTE * attribute_count) as usize);
+    let text = format!(
+        "ok {error_count} {attribute_count} {} {}",
+        words(errors),
+        words(attributes)
+    );
+    let kept = words_kept(errors_rest) && words_kept(attributes_rest);
+    Ok(mark(text, kept))
+}
+
+/// The tables written. The size must answer the same, room aside.
+fn error_write(room: u64, area: &[u8], errors: &[u64], attributes: &[u64]) -> Answer {
+    // An error's three heads have at most 39 bytes, an attribute's 33.
+    let fixed = 64 + 10 * errors.len() as u64 + 7 * attributes.len() as u64;
+    let texts = errors.iter().skip(3).step_by(ERROR as usize);
+    let keys = attributes.iter().skip(2).step_by(ATTRIBUTE as usize);
+    let values = attributes.iter().skip(4).step_by(ATTRIBUTE as usize);
+    let most = most(area, fixed, texts.chain(keys).chain(values).copied());
+    let mut out = Placed::filled(room.min(most) as usize);
+    let sized = face::error_size(area, errors, attributes);
+    let outcome = face::error_write(area, errors, attributes, &mut out);
+    let alike = match outcome.number {
+        17 => sized.kind == face::ACCEPTED && sized.count == outcome.values[1],
+        _ => {
+            sized.kind == outcome.kind
+                && sized.count == outcome.count
+                && sized.values == outcome.values
+        }
+    };
+    if !alike {
+        return Ok("other answer of the size".to_string());
+    }
+    Ok(written(&outcome, &out))
 }

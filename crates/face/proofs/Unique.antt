@@ -22,7 +22,7 @@ use Rattle.yson.specs.Reading.{wordsOf, listing}
 use Rattle.yson.proofs.Unique.{one-reading}
 use Rattle.words.specs.Paper.{outcome}
 use Rattle.words.specs.declared.outcome.Outcome.{Outcome}
-use Rattle.face.specs.Statement.{WritesId, Prints, Parses, GivesParts, GivesHalves, TellsNull, Decodes, Encodes, Measures, Validates, LendsPart, Contains, DecodesRowset, EncodesRowset, MeasuresRowset, ReadsValue, ChecksYson, ListsYson}
+use Rattle.face.specs.Statement.{WritesId, Prints, Parses, GivesParts, GivesHalves, TellsNull, Decodes, Encodes, Measures, Validates, LendsPart, Contains, DecodesRowset, EncodesRowset, MeasuresRowset, ReadsValue, ChecksYson, ListsYson, DecodesError, MeasuresError, EncodesError}
 
 -- so of two things, and of three
 equal-to-two : {A B : Type 0} (a : A) (b : B) → OneResult (λ (x : A × B). (x .0 ≡ a) × (x .1 ≡ b))
@@ -124,3 +124,12 @@ cablefinch-yson-items-unique s before r r′ (x, tells, holds) (x′, tells′, 
     ∙ ap (λ (ws : List ℕ). afterwards (listing x′ room) ws before) (same .words)
     ∙ sym holds′ in
     λ i. (told i, exits i)
+
+pub cablefinch-error-read-unique : (s errors attributes : List ℕ) → OneResult (λ (x : Outcome × List ℕ × List ℕ). DecodesError s errors attributes (x .0) (x .1) (x .2))
+cablefinch-error-read-unique s errors attributes = equal-to-three _ _ _
+
+pub cablefinch-error-size-unique : (area errors attributes : List ℕ) → OneResult (MeasuresError area errors attributes)
+cablefinch-error-size-unique area errors attributes = equal-to-one _
+
+pub cablefinch-error-write-unique : (area errors attributes before : List ℕ) → OneResult (λ (x : Outcome × List ℕ). EncodesError area errors attributes before (x .0) (x .1))
+cablefinch-error-write-unique area errors attributes before = equal-to-two _ _

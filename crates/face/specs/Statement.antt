@@ -31,6 +31,10 @@ use Rattle.wire_value.specs.ValueOrder.{valueReading}
 use Rattle.wire_read.specs.Reading as rowset
 use Rattle.wire_check.specs.Writing as rowsetWriting
 use Rattle.yson.specs.Reading as yson
+use Rattle.error_tree.specs.Tree.{tree, errorWords, attributeWords}
+use Rattle.error_tree.specs.Reading as error
+use Rattle.error_write.specs.Written.{errorBytes}
+use Rattle.error_write.specs.Writing as errorWriting
 
 -- GUIDs, lent as wire bytes
 
@@ -127,3 +131,20 @@ ListsYson s before r after =
     (x : yson.Reading s)
     × Tells (yson.listing x (length before / 4)) r
     × Holds (yson.listing x (length before / 4)) (yson.wordsOf x) before after
+
+-- Error messages: the answer, the errors over the front of one table and the attributes over the other's
+
+abbrev pub DecodesError : List ℕ → List ℕ → List ℕ → Outcome → List ℕ → List ℕ → Type 0
+DecodesError s errors attributes r errors′ attributes′ =
+    let answer = error.reading s (length errors) (length attributes) in
+    Tells answer r
+    × Holds answer (errorWords 1 (tree s)) errors errors′
+    × Holds answer (attributeWords 0 0 (tree s)) attributes attributes′
+
+abbrev pub MeasuresError : List ℕ → List ℕ → List ℕ → Outcome → Type 0
+MeasuresError area errors attributes r = Tells (errorWriting.measuring area errors attributes) r
+
+abbrev pub EncodesError : List ℕ → List ℕ → List ℕ → List ℕ → Outcome → List ℕ → Type 0
+EncodesError area errors attributes before r after =
+    let answer = errorWriting.writing area errors attributes (length before) in
+    Tells answer r × Holds answer (errorBytes area errors attributes) before after

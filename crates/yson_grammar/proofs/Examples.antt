@@ -2,7 +2,7 @@
 use mathlib.Core.Path.{_≡_, refl}
 use mathlib.Core.List.{[], _∷_, _++_}
 use lib.ListN.{replicate}
-use Rattle.yson_token.specs.Varint.{sizeIn, valueIn}
+use Rattle.varint.specs.Varint.{sizeIn, valueIn}
 use Rattle.yson_token.specs.Token.{within, numberEnd, stringFrom, textEnd, punctuation, scalar, scalarEnd, tokenEnd}
 use Rattle.yson_grammar.specs.Stages.{good, bad, deep, asObject, asNode, asKey, step, complete, taken, after, run, verdict}
 

@@ -3,7 +3,7 @@ use mathlib.Core.Path.{_≡_, refl}
 use mathlib.Core.List.{List, [], _∷_}
 use Prim.Native.Nat.{ℕ}
 use Rattle.words.specs.Buffer.{over}
-use Rattle.yson_token.specs.Varint.{sizeIn, valueIn}
+use Rattle.varint.specs.Varint.{sizeIn, valueIn}
 use Rattle.yson_token.specs.Token.{within, numberEnd, stringFrom, textEnd, punctuation, scalar, scalarEnd, tokenEnd}
 use Rattle.yson_grammar.specs.Grammar.{plain, attributed, single, map, more, mapped, pair, Yson}
 use Rattle.yson_grammar.specs.Grammar as Grammar

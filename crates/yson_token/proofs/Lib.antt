@@ -1,6 +1,4 @@
--- Laws of varints and tokens, which the proofs of this crate and of those above cite.
-pub mod VarintLaws
-pub mod ReadLaws
+-- Laws of tokens, which the proofs of this crate and of those above cite.
 pub mod TokenLaws
 pub mod ScalarLaws
 pub mod LocalLaws

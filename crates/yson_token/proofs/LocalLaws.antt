@@ -1,7 +1,7 @@
 -- A whole token is read from its own bytes alone: it is whole, and ends at the same place, in every input that has the same bytes up
 -- to there. Assumes nothing.
 use mathlib.Core.Path.{_≡_, refl, sym, _∙_, ap}
-use mathlib.Core.Bool.{Bool, true, false}
+use mathlib.Core.Bool.{Bool, true, false, _&&_, true≢false}
 use mathlib.Core.List.{List, [], _∷_}
 use Prim.Native.Nat.{ℕ, zero, suc, _+_, _*_, _/_, _%_, _^_, _<_, _≤_}
 use native.Mathlib.Omega.{arith}
@@ -9,10 +9,25 @@ use borrow.Author.Tests.{le-ltb, ltb-false, ltb-true}
 use lib.ListN.{length, getD}
 use Rattle.words.specs.Decide.{pick, _⇒_, decide, _<?_, _=?_}
 use Rattle.words.proofs.DecideLaws.{pick-case}
-use Rattle.yson_token.specs.Varint.{sizeIn, valueIn, varintAt, varintEnd, wholeVarint}
+use Rattle.varint.specs.Varint.{sizeIn, valueIn, varintSize, varintAt, varintEnd, wholeVarint}
 use Rattle.yson_token.specs.Token.{End, end, none, within, numberEnd, stringFrom, textEnd, punctuation, scalars, scalarEnd, tokenEnd}
-use Rattle.yson_token.proofs.VarintLaws.{size-least, size-last, value-last, size-more, value-more, whole-is, whole-parts}
+use Rattle.varint.proofs.VarintLaws.{size-least, size-last, value-last, size-more, value-more, whole-is}
 use Rattle.yson_token.proofs.TokenLaws.{Lines, decide-all, Bounded, token-bounded}
+
+and-left : (a b : Bool) → (a && b) ≡ true → a ≡ true
+and-left true b h = refl
+and-left false b h = h
+
+and-right : (a b : Bool) → (a && b) ≡ true → b ≡ true
+and-right true b h = h
+and-right false b h = absurd (true≢false (sym h))
+
+-- a whole varint has ten bytes at most and a value below 2 ^ 64
+whole-parts : (s : List ℕ) (at e : ℕ) → wholeVarint s at e ≡ true → (varintSize s at ≤ 10) × (varintAt s at < 0x1_0000_0000_0000_0000)
+whole-parts s at e h =
+    let rest = and-right (varintEnd s at <? (e + 1)) (varintSize s at <? 11 && varintAt s at <? 0x1_0000_0000_0000_0000) (and-right (e <? (length s + 1)) _ h) in
+    let few : varintSize s at < 11 = ltb-true (varintSize s at) 11 (and-left (varintSize s at <? 11) _ rest) in
+    (omega arith, ltb-true (varintAt s at) 0x1_0000_0000_0000_0000 (and-right (varintSize s at <? 11) _ rest))
 
 -- t has the bytes of s up to n, and reaches to n
 pub record Alike (s t : List ℕ) (n : ℕ) : Type 0 where

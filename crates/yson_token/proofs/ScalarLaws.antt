@@ -5,11 +5,11 @@ use Prim.Native.Nat.{ℕ, _+_, _-_, _/_, _%_, _^_, _<_, _≤_}
 use native.Mathlib.Omega.{arith}
 use borrow.Author.Tests.{lt-ltb, le-ltb, eq-eqb, ne-eqb}
 use lib.ListN.{length, getD}
-use Rattle.yson_token.specs.Varint.{varintAt}
+use Rattle.varint.specs.Varint.{varintAt}
 use Rattle.yson_token.specs.Token.{end, none, within, numberEnd, stringFrom, textEnd, scalarEnd, keyEnd}
-use Rattle.yson_token.specs.Stages.{ReadsVarint}
-use Rattle.yson_token.specs.declared.varint.Varint.the-variants.{Whole as Spelled, Broken}
-use Rattle.yson_token.proofs.VarintLaws.{whole-end}
+use Rattle.varint.specs.Statement.{ReadsVarint}
+use Rattle.varint.specs.declared.read.Varint.the-variants.{Whole as Spelled, Broken}
+use Rattle.varint.proofs.VarintLaws.{whole-end}
 
 module _ (s : List ℕ) where
   pub outside : (e : ℕ) → length s < e → within s e ≡ none

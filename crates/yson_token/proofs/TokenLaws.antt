@@ -9,9 +9,9 @@ use borrow.Author.Tests.{eqb-true, ltb-false}
 use lib.ListN.{length, getD, List·getD-eq-default}
 use Rattle.words.specs.Decide.{Line, _⇒_, decide, _<?_, _=?_}
 use Rattle.words.proofs.DecideLaws.{pick-case, le-or-gt}
-use Rattle.yson_token.specs.Varint.{varintAt, varintEnd, wholeVarint}
+use Rattle.varint.specs.Varint.{varintAt, varintEnd, wholeVarint}
 use Rattle.yson_token.specs.Token.{End, end, none, within, numberEnd, stringFrom, textEnd, punctuation, scalar, scalars, scalarEnd, tokenEnd}
-use Rattle.yson_token.proofs.VarintLaws.{whole-end}
+use Rattle.varint.proofs.VarintLaws.{whole-end}
 
 -- what is shown line by line holds of the answer
 unfoldable pub Lines : {A : Type 0} → (A → Type 0) → List (Line A) → Type 0

@@ -1,5 +1,3 @@
--- The tokens of YSON's binary form, the varints in them, and what the public functions promise.
-pub mod Varint
+-- The tokens of YSON's binary form, and what the public functions promise.
 pub mod Token
 pub mod Statement
-pub mod Stages

@@ -5,7 +5,7 @@ use mathlib.Core.Bool.{Bool, true}
 use mathlib.Core.List.{List, [], _∷_}
 use lib.ListN.{length, getD}
 use Rattle.words.specs.Decide.{Line, decide, pick, _⇒_, _<?_, _=?_}
-use Rattle.yson_token.specs.Varint.{varintAt, varintEnd, wholeVarint}
+use Rattle.varint.specs.Varint.{varintAt, varintEnd, wholeVarint}
 
 -- What a token's first byte is.
 

@@ -2,10 +2,8 @@
 // end of the input counts as 0, which begins no token.
 ghost use Rattle.yson_token.specs.Token.{numberEnd, textEnd};
 ghost use Rattle.yson_token.specs.Statement.{ReadsByte, Finds, FindsScalar, FindsKey};
-use varint::Varint;
-use varint::read_varint;
-
-mod varint;
+use varint::read::Varint;
+use varint::read::read_varint;
 
 // Where a whole token ends, if one is there.
 pub enum Found {

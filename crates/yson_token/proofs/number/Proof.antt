@@ -5,7 +5,6 @@ use Rattle.yson_token.proofs.number.Statement.{statement}
 use Rattle.yson_token.proofs.number.Tie as tie
 use Rattle.yson_token.proofs.number.Reads as reads
 use Rattle.yson_token.proofs.number.Lts as lts
-use Rattle.yson_token.proofs.varint.read_varint.Reads as read-varint-reads
 
 -- src/lib.rt
 read-varint-requires : tie.Need-read-varint-requires

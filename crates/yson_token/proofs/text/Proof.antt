@@ -6,7 +6,6 @@ use Rattle.yson_token.proofs.text.Statement.{statement}
 use Rattle.yson_token.proofs.text.Tie as tie
 use Rattle.yson_token.proofs.text.Reads as reads
 use Rattle.yson_token.proofs.text.Lts as lts
-use Rattle.yson_token.proofs.varint.read_varint.Reads as read-varint-reads
 
 -- src/lib.rt
 read-varint-requires : tie.Need-read-varint-requires
