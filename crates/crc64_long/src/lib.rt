@@ -20,7 +20,7 @@ const BLOCK: usize = 4096;
 const WINDOW: usize = 5952;
 
 // From how many bytes on this pays, measured.
-pub const LONG_FROM: usize = 4096;
+pub const LONG_FROM: usize = 3072;
 
 type Window = [u8; WINDOW];
 
