@@ -17,11 +17,8 @@ use Rattle.pack_pairs.specs.Uses.{firstUse, isNew, roomOf, room, packedBytes, n
 use Rattle.wire_check.specs.Writing.{entriesIn}
 use Rattle.pack_links.specs.Links.{roomFor, Movable}
 use Rattle.pack_pairs.proofs.UseLaws.{both-true}
-use Rattle.pack_links.proofs.MoveLaws.{offset-is, room-for-is, room-next, room-grows}
-
-pub length-stretch : (s : List ℕ) (at n : ℕ) → (0 < n → at + n ≤ length s) → length (stretch s at n) ≡ n
-length-stretch s at zero inside = refl
-length-stretch s at (suc n) inside = length-take-le (suc n) (drop at s) (simp length-drop (omega (arith, inside (omega arith))))
+use Rattle.pack_links.proofs.MoveLaws.{offset-is, room-for-is, room-next}
+use Rattle.pack_pairs.proofs.RoomLaws.{room-grows, length-stretch, room-inside, length-bytes}
 
 -- the first i entries' bytes are copied, and the next ones go to `at`
 abbrev pub Copying : List ℕ → List ℕ → List ℕ → List ℕ → ℕ → ℕ → Type 0
@@ -32,19 +29,6 @@ unfolding room packedBytes
 copy-begin area values out = (omega arith, refl, refl)
 
 module _ (area values : List ℕ) (inside : Inside area values) where
-  pub room-inside : (i : ℕ) → i < entriesIn values → 0 < roomOf values i → offsetAt values i + roomOf values i ≤ length area
-  room-inside i h = cases (isNew values i) refl
-    where
-      cases : (b : Bool) → isNew values i ≡ b → 0 < pick b (lengthAt values i) 0 → offsetAt values i + pick b (lengthAt values i) 0 ≤ length area
-      cases true e some = inside i h (both-true (stored values i) _ e .0)
-      cases false e none = absurd (omega arith)
-
-  pub length-bytes : (n : ℕ) → n ≤ entriesIn values → length (packedBytes area values n) ≡ room values n
-  unfolding room packedBytes
-  length-bytes zero h = refl
-  length-bytes (suc n) h =
-      rw (length-append (packedBytes area values n) (stretch area (offsetAt values n) (roomOf values n)), length-bytes n (omega arith), length-stretch area (offsetAt values n) (roomOf values n) (room-inside n (omega arith)))
-
   module _ (t : List ℕ) (movable : Movable values t) (out₀ : List ℕ) (fits : needed values ≤ length out₀) (out : List ℕ) (at i : ℕ) (so-far : Copying area values out₀ out at i) where
     pub copy-end : entriesIn values ≤ i → out ≡ over (packedBytes area values (entriesIn values)) out₀
     copy-end h = let all : i ≡ entriesIn values = omega arith in rw all at (so-far .2)
@@ -52,7 +36,7 @@ module _ (area values : List ℕ) (inside : Inside area values) where
     pub copy-long : length out ≡ length out₀
     copy-long =
         ap length (so-far .2)
-        ∙ length-over (packedBytes area values i) out₀ (omega (arith, length-bytes i (so-far .0), room-grows values i (entriesIn values) (so-far .0)))
+        ∙ length-over (packedBytes area values i) out₀ (omega (arith, length-bytes area values inside i (so-far .0), room-grows values i (entriesIn values) (so-far .0)))
 
     pub copy-place : at ≤ length out
     copy-place = omega (arith, copy-long, room-grows values i (entriesIn values) (so-far .0))
@@ -75,15 +59,15 @@ module _ (area values : List ℕ) (inside : Inside area values) where
         more-is = omega (arith, takes)
 
         pub cut-asks : 0 < next - at → offsetAt t i + (next - at) ≤ length area
-        cut-asks some = rw (more-is, offset-is values t movable t i (λ k low. refl) h) (room-inside i h (omega (arith, more-is)))
+        cut-asks some = rw (more-is, offset-is values t movable t i (λ k low. refl) h) (room-inside area values inside i h (omega (arith, more-is)))
 
         pub copy-go : (bytes last : List ℕ) → bytes ≡ stretch area (offsetAt t i) (next - at) → last ≡ fitted bytes (midOf at (length out - at) out)
             → Copying area values out₀ (putMid at (length out - at) out last) next (i + 1)
         unfolding packedBytes
         copy-go bytes last is wrote =
             let piece : bytes ≡ stretch area (offsetAt values i) (roomOf values i) = is ∙ rw (more-is, offset-is values t movable t i (λ k low. refl) h) in
-            let size : length bytes ≡ roomOf values i = ap length piece ∙ length-stretch area (offsetAt values i) (roomOf values i) (room-inside i h) in
-            let reach : length (packedBytes area values i) ≡ at = length-bytes i (so-far .0) ∙ sym (so-far .1) in
+            let size : length bytes ≡ roomOf values i = ap length piece ∙ length-stretch area (offsetAt values i) (roomOf values i) (room-inside area values inside i h) in
+            let reach : length (packedBytes area values i) ≡ at = length-bytes area values inside i (so-far .0) ∙ sym (so-far .1) in
             let grows : at + roomOf values i ≡ room values (i + 1) = rw (so-far .1) (sym (room-next values t movable i)) in (
               omega arith,
               omega (arith, takes, grows),

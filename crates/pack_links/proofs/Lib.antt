@@ -5,4 +5,4 @@ pub mod WalkLaws
 pub mod TurnLaws
 pub mod MoveLaws
 pub mod CopyLaws
-pub mod RuleLaws
+pub mod SpareLaws

@@ -21,7 +21,8 @@ use Rattle.wire_check.specs.Writing.{entriesIn}
 use Rattle.pack_links.specs.Links.{link, behind, Linked, storedUnder, Over, Settled, Linking, plainWord, plain, goesOn, wordFor, roomFor, Movable, settled}
 use Rattle.pack_pairs.specs.Uses.{New}
 use Rattle.pack_pairs.proofs.UseLaws.{both-true, use-new, use-alike, new-use}
-use Rattle.pack_links.proofs.TurnLaws.{Turned, turned-begin, turned-end, turned-keep, turned-set, table-same, length-table}
+use Rattle.pack_pairs.proofs.RoomLaws.{room-grows, choose, packed-else, packed-fourth, new-word-stored, table-same, length-table}
+use Rattle.pack_links.proofs.TurnLaws.{Turned, turned-begin, turned-end, turned-keep, turned-set}
 
 -- The ways out of the functions of one entry
 
@@ -88,30 +89,6 @@ unlink-end t u k turned h = turned-end (plainWord t) t u k turned (omega (arith,
 -- The walk
 
 -- entries that store more take no less room
-pub room-grows : (values : List ℕ) (i n : ℕ) → i ≤ n → room values i ≤ room values n
-unfolding room
-room-grows values i zero h = let e : i ≡ 0 = omega arith in rw e (omega arith)
-room-grows values i (suc n) h = ⊎-elim (λ (e : i ≡ suc n). rw e (omega arith)) (λ (less : i < suc n). omega (arith, room-grows values i n (omega arith))) (eq-or-lt-of-le h)
-
-pub choose : (b c : Bool) (x y o : ℕ) → ((b && c) ≡ true → x ≡ y) → pick b (pick c x 0) o ≡ pick b (pick c y 0) o
-choose true true x y o e = e refl
-choose true false x y o e = refl
-choose false c x y o e = refl
-
--- what a word is that is no fourth one
-pub packed-else : (values : List ℕ) (k : ℕ) → (k % 5 ≡ 3 → ⊥) → packedWord values k ≡ getD values k 0
-packed-else values k other = rw (ne-eqb (k % 5) 3 other)
-
-pub packed-fourth : (values : List ℕ) (i : ℕ) → packedWord values (5 * i + 3) ≡ newWord values i
-packed-fourth values i =
-    let is-third : (5 * i + 3) % 5 ≡ 3 = omega arith in
-    let is-i : (5 * i + 3) / 5 ≡ i = omega arith in
-    rw (eq-eqb ((5 * i + 3) % 5) 3 is-third, is-i)
-
-pub new-word-stored : (values : List ℕ) (i : ℕ) → stored values i ≡ true → newWord values i ≡ newOffset values i
-unfolding newWord
-new-word-stored values i e = let both = both-true (blob (typeAt values i)) (0 <? lengthAt values i) e in rw (both .0, both .1)
-
 -- the first i entries have their new words, and the next pair goes to `at`
 abbrev pub Moving : List ℕ → List ℕ → List ℕ → ℕ → ℕ → Type 0
 Moving values t u at i = (i ≤ entriesIn values) × (at ≡ room values i) × Turned (packedWord values) t u (5 * i)

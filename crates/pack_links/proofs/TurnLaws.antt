@@ -8,21 +8,7 @@ use native.Mathlib.Omega.{arith}
 use lib.ListN.{length, getD, set, length-set}
 use lib.Seq.{getD-set-same, getD-set-other, ext-getD}
 use Rattle.pack_pairs.specs.Packing.{table}
-
-pub length-table : (f : ℕ → ℕ) (k n : ℕ) → length (table f k n) ≡ n
-unfolding table
-length-table f k zero = refl
-length-table f k (suc n) = ap suc (length-table f (k + 1) n)
-
-pub getD-table : (f : ℕ → ℕ) (k n i : ℕ) → i < n → getD (table f k n) i 0 ≡ f (k + i)
-unfolding table
-getD-table f k zero i h = absurd (omega arith)
-getD-table f k (suc n) zero h = ap f (omega arith)
-getD-table f k (suc n) (suc i) h = getD-table f (k + 1) n i (omega arith) ∙ ap f (omega arith)
-
-pub table-same : (f : ℕ → ℕ) (l : List ℕ) → ((i : ℕ) → i < length l → getD l i 0 ≡ f i) → l ≡ table f 0 (length l)
-table-same f l same =
-    ext-getD 0 l (table f 0 (length l)) (sym (length-table f 0 (length l))) (λ i h. same i h ∙ sym (getD-table f 0 (length l) i h ∙ ap f (omega arith)))
+use Rattle.pack_pairs.proofs.RoomLaws.{table-same}
 
 -- u has f at the first k words, and is t from there on
 pub record Turned (f : ℕ → ℕ) (t u : List ℕ) (k : ℕ) : Type 0 where

@@ -19,19 +19,8 @@ use Rattle.pack_pairs.specs.Uses.{Alike, New}
 use Rattle.pack_links.specs.declared.Place.{Place}
 use Rattle.pack_links.specs.declared.Place.the-variants.{Known, Free, Nowhere}
 use Rattle.pack_pairs.proofs.UseLaws.{room-new, room-used, room-none}
+use Rattle.pack_pairs.proofs.RoomLaws.{capped-add}
 use Rattle.pack_links.proofs.TableLaws.{Puts, puts, climbs, new-entry, links-begin, links-skip, links-new, links-used, use-known}
-
--- a sum that is capped at each step is capped at the end
-capped-add : (a b : ℕ) → capped (capped a + b) ≡ capped (a + b)
-capped-add a b =
-    ⊎-elim
-    (λ (h : a ≤ 0xffff_ffff_ffff_ffff). rw (le-ltb 0xffff_ffff_ffff_ffff a h))
-    (λ (h : 0xffff_ffff_ffff_ffff < a). rw (lt-ltb 0xffff_ffff_ffff_ffff a h, lt-ltb 0xffff_ffff_ffff_ffff (a + b) (omega arith)) (full b))
-    (le-or-gt a 0xffff_ffff_ffff_ffff)
-  where
-    full : (b : ℕ) → capped (0xffff_ffff_ffff_ffff + b) ≡ 0xffff_ffff_ffff_ffff
-    full zero = refl
-    full (suc b) = rw (lt-ltb 0xffff_ffff_ffff_ffff (0xffff_ffff_ffff_ffff + suc b) (omega arith))
 
 -- the first i entries are linked, and this is the sum of their first uses' lengths
 abbrev pub SoFar : List ℕ → List ℕ → ℕ → ℕ → Type 0

@@ -15,14 +15,9 @@ use Rattle.wire_check.specs.Writing.{entriesIn}
 use Rattle.pack_pairs.specs.Pairs.{typeAt, offsetAt, lengthAt, stored, Pair, pair, pairAt, pairs, distinct, before, bytesAt, bytesOfPairs}
 use Rattle.pack_pairs.specs.Packing.{placed, table, placedWord, packedTable, packedArea, neededBytes}
 use Rattle.pack_pairs.specs.Uses.{Alike, New, firstUse, isNew, roomOf, room, packedBytes, newOffset, newWord, packedWord, packed, needed}
+use Rattle.pack_pairs.proofs.RoomLaws.{choose}
 use Rattle.pack_pairs.proofs.UseLaws.{use-alike, use-new, use-most, new-use}
 use Rattle.pack_pairs.proofs.PairLaws.{either, pairs-none, pairs-used, pairs-new, has-in, new-not-had, room-total, offset-before}
-
--- what is picked under two tests at once
-pick-both : (a b : Bool) (x y z : ℕ) → ((a && b) ≡ true → x ≡ y) → pick a (pick b x 0) z ≡ pick a (pick b y 0) z
-pick-both true true x y z same = same refl
-pick-both true false x y z same = refl
-pick-both false b x y z same = refl
 
 pub table-by : (f g : ℕ → ℕ) (k n : ℕ) → ((i : ℕ) → k ≤ i → i < k + n → f i ≡ g i) → table f k n ≡ table g k n
 unfolding table
@@ -44,7 +39,7 @@ module _ (values : List ℕ) where
   word-is : (i : ℕ) → i < entriesIn values → newWord values i ≡ placed values i
   unfolding newWord placed
   word-is i h =
-      pick-both (blob (typeAt values i)) (0 <? lengthAt values i) (newOffset values i) (before (pairAt values i) (distinct values)) (offsetAt values i)
+      choose (blob (typeAt values i)) (0 <? lengthAt values i) (newOffset values i) (before (pairAt values i) (distinct values)) (offsetAt values i)
       (λ s. offset-before values i (entriesIn values) s (omega (arith, use-most values i)))
 
   pub packed-is : length values % 5 ≡ 0 → packed values ≡ packedTable values

@@ -1,23 +1,21 @@
--- What rules 1 and 3 of refusal 18 give: words that leave room for links, and pairs that lie in the area. Assumes nothing.
-use mathlib.Core.Path.{_≡_, refl, sym, _∙_, ap}
+-- What rules 1 and 3 of refusal 18 give: words that fit their fields, and pairs that lie in the area. Assumes nothing.
+use mathlib.Core.Path.{_≡_, refl, sym, _∙_}
 use mathlib.Core.Bool.{Bool, true, false, _&&_, _||_, not, true≢false}
-use mathlib.Core.Logic.{_⊎_, inl, inr, ⊎-elim}
+use mathlib.Core.Logic.{⊎-elim}
 use mathlib.Core.List.{List}
-use Prim.Native.Nat.{ℕ, _+_, _*_, _-_, _/_, _%_, _^_, _<_, _≤_}
+use Prim.Native.Nat.{ℕ, _+_, _*_, _/_, _%_, _<_, _≤_}
 use native.Mathlib.Omega.{arith}
-use lib.ListN.{length, getD, List·getD-eq-default}
+use lib.ListN.{length}
 use borrow.Author.Tests.{ne-eqb, ltb-false, not-false}
 use Rattle.words.specs.Decide.{_<?_, _=?_, _≠?_}
 use Rattle.words.proofs.DecideLaws.{le-or-gt}
-use Rattle.wire.specs.Layout.{entryWords, boolean, scalar, blob, known}
+use Rattle.wire.specs.Layout.{boolean, blob, known}
 use Rattle.wire.proofs.TypeLaws.{blob-high, scalar-high}
-use Rattle.wire_check.specs.Writing.{idIn, typeIn, aggregateIn, bitsIn, lengthIn, bad, badEntry}
+use Rattle.wire_check.specs.Writing.{idIn, typeIn, aggregateIn, bitsIn, lengthIn, entriesIn, bad}
 use Rattle.wire_check.specs.Stages.{Good}
-use Rattle.pack_pairs.specs.Pairs.{typeAt, offsetAt, lengthAt, stored}
-use Rattle.wire_check.specs.Writing.{entriesIn}
+use Rattle.pack_pairs.specs.Pairs.{typeAt}
 use Rattle.pack_pairs.specs.Uses.{Inside}
-use Rattle.pack_links.specs.Links.{Spare}
 use Rattle.pack_pairs.proofs.UseLaws.{both-true}
 
 or-false : (a b : Bool) → (a || b) ≡ false → (a ≡ false) × (b ≡ false)
 or-false true b e = absurd (true≢false e)
@@ -60,25 +58,8 @@ fair size id type aggregate bits n good =
     }
 
 module _ (area values : List ℕ) (whole : length values % 5 ≡ 0) (good : Good area values) where
-  entry : (i : ℕ) → i < entriesIn values → Fair (length area) (idIn values (5 * i)) (typeIn values (5 * i)) (aggregateIn values (5 * i)) (bitsIn values (5 * i)) (lengthIn values (5 * i))
-  entry i h = fair _ _ _ _ _ _ (good (5 * i) (omega arith) (omega arith))
+  pub entry-fair : (i : ℕ) → i < entriesIn values → Fair (length area) (idIn values (5 * i)) (typeIn values (5 * i)) (aggregateIn values (5 * i)) (bitsIn values (5 * i)) (lengthIn values (5 * i))
+  entry-fair i h = fair _ _ _ _ _ _ (good (5 * i) (omega arith) (omega arith))
 
   pub good-inside : Inside area values
-  good-inside i h is = entry i h .inside (both-true (blob (typeAt values i)) _ is .0)
-
-  small : (s : ℕ) → s % 5 < 3 → getD values s 0 < 65_536
-  small s over =
-      ⊎-elim (λ (past : length values ≤ s). rw (List·getD-eq-default values 0 past) (omega arith))
-      (λ (h : s < length values).
-      let it = entry (s / 5) (omega arith) in
-      ⊎-elim
-      (λ (low : s % 5 ≤ 0). let place : 5 * (s / 5) ≡ s = omega arith in rw place at (it .id-small))
-      (λ (some : 0 < s % 5).
-      ⊎-elim (λ (low : s % 5 ≤ 1). let place : 5 * (s / 5) + 1 ≡ s = omega arith in omega (arith, rw place at (it .type-small)))
-      (λ (high : 1 < s % 5). let place : 5 * (s / 5) + 2 ≡ s = omega arith in omega (arith, rw place at (it .flag-small)))
-      (le-or-gt (s % 5) 1))
-      (le-or-gt (s % 5) 0))
-      (le-or-gt (length values) s)
-
-  pub good-spare : length values < 2 ^ 48 → Spare values
-  good-spare few = record { small = small; few = few; whole = whole }
+  good-inside i h is = entry-fair i h .inside (both-true (blob (typeAt values i)) _ is .0)
