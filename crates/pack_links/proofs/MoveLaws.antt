@@ -13,7 +13,6 @@ use borrow.Author.Tests.{lt-ltb, le-ltb, eq-eqb, ne-eqb}
 use Rattle.words.specs.Decide.{pick, _<?_}
 use Rattle.words.proofs.DecideLaws.{le-or-gt}
 use Rattle.wire.specs.Layout.{blob}
-use Rattle.wire.proofs.TypeLaws.{blob-yes, blob-low, blob-high}
 use Rattle.pack_pairs.specs.Pairs.{typeAt, offsetAt, lengthAt, stored}
 use Rattle.pack_pairs.specs.Uses.{firstUse, roomOf, room, newOffset, newWord, packedWord, packed, needed}
 use Rattle.pack_pairs.specs.Packing.{table}
@@ -27,11 +26,8 @@ use Rattle.pack_links.proofs.TurnLaws.{Turned, turned-begin, turned-end
 -- The ways out of the functions of one entry
 
 module _ (t : List ℕ) (i at : ℕ) where
-  pub word-low : typeAt t i % 65_536 < 16 → offsetAt t i ≡ wordFor t i at
-  word-low h = rw (blob-low (typeAt t i % 65_536) (omega arith))
-
-  pub word-high : 18 < typeAt t i % 65_536 → offsetAt t i ≡ wordFor t i at
-  word-high h = rw (blob-high (typeAt t i % 65_536) (omega arith))
+  pub word-other : blob (typeAt t i % 65_536) ≡ false → offsetAt t i ≡ wordFor t i at
+  word-other isnt = rw isnt
 
   pub goes-none : link t (5 * i + 1) ≡ 0 → goesOn t i ≡ true
   goes-none e = rw (eq-eqb (link t (5 * i + 1)) 0 e)
@@ -42,16 +38,16 @@ module _ (t : List ℕ) (i at : ℕ) where
   pub goes-back : (link t (5 * i + 1) ≡ 0 → ⊥) → link t (5 * i + 1) ≤ i → goesOn t i ≡ false
   goes-back some h = rw (ne-eqb (link t (5 * i + 1)) 0 some, le-ltb i (link t (5 * i + 1)) h)
 
-  module _ (low : 16 ≤ typeAt t i % 65_536) (high : typeAt t i % 65_536 ≤ 18) where
+  module _ (is : blob (typeAt t i % 65_536) ≡ true) where
     pub word-empty : lengthAt t i ≡ 0 → 0 ≡ wordFor t i at
-    word-empty e = rw (blob-yes (typeAt t i % 65_536) (omega arith) (omega arith), le-ltb 0 (lengthAt t i) (omega arith))
+    word-empty e = rw (is, le-ltb 0 (lengthAt t i) (omega arith))
 
     module _ (some : lengthAt t i ≡ 0 → ⊥) where
       pub word-new : goesOn t i ≡ true → at ≡ wordFor t i at
-      word-new on = rw (blob-yes (typeAt t i % 65_536) (omega arith) (omega arith), lt-ltb 0 (lengthAt t i) (omega arith), on)
+      word-new on = rw (is, lt-ltb 0 (lengthAt t i) (omega arith), on)
 
       pub word-used : goesOn t i ≡ false → offsetAt t (link t (5 * i + 1) - 1) ≡ wordFor t i at
-      word-used back = rw (blob-yes (typeAt t i % 65_536) (omega arith) (omega arith), lt-ltb 0 (lengthAt t i) (omega arith), back)
+      word-used back = rw (is, lt-ltb 0 (lengthAt t i) (omega arith), back)
 
 module _ (t : List ℕ) (i at : ℕ) where
   pub room-for-none : storedUnder t i ≡ false → at ≡ at + roomFor t i
