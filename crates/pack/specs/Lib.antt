@@ -1,0 +1,1 @@
+-- Nothing to believe: the statement is `pack_plain`'s.
