@@ -19,7 +19,7 @@ either false = inr refl
 
 -- One pair more behind a list
 
-has-more : (p q : Pair) (ps : List Pair) → has p (ps ++ (q ∷ [])) ≡ (has p ps || is q p)
+pub has-more : (p q : Pair) (ps : List Pair) → has p (ps ++ (q ∷ [])) ≡ (has p ps || is q p)
 unfolding has
 has-more p q [] = orFalse (is q p)
   where

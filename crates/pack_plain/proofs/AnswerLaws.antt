@@ -21,7 +21,7 @@ use Rattle.pack_plain.specs.Statement.{Packs}
 use Rattle.pack_plain.specs.declared.plain.Packed.the-variants.{Filled, Refused}
 
 -- what is as long as a list covers it
-over-all : (ws xs : List ℕ) → length ws ≡ length xs → over ws xs ≡ ws
+pub over-all : (ws xs : List ℕ) → length ws ≡ length xs → over ws xs ≡ ws
 over-all ws xs e = let none : drop (length ws) xs ≡ [] = drop-of-length-le xs {i = length ws} (omega arith) in rw none (append-nil ws)
 
 pub table-long : (values : List ℕ) → length (packedTable values) ≡ length values
