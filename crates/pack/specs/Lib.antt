@@ -1,1 +1,1 @@
--- Nothing to believe: the statement is `pack_plain`'s.
+-- Nothing to believe: the statement is `Packs` of `pack_answer`.

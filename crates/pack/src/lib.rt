@@ -7,14 +7,15 @@ ghost use Rattle.words.specs.Buffer.{stretch, over};
 ghost use Rattle.wire_check.specs.Writing.{entriesIn, firstBad};
 ghost use Rattle.pack_pairs.specs.Packing.{capped};
 ghost use Rattle.pack_pairs.specs.Uses.{same, needed, packed, packedBytes, Inside};
-ghost use Rattle.pack_plain.specs.Statement.{Packs};
-ghost use Rattle.pack_links.specs.Links.{link, settled, linkedTo, plain, plainWord, wordFor, roomFor, Movable, Climbs, Finds, Looks, bucket, Spare, Linking};
+ghost use Rattle.pack_answer.specs.Statement.{Packs};
+ghost use Rattle.pack_links.specs.Links.{link, settled, linkedTo, plain, wordFor, roomFor, Movable, Climbs, Finds, Looks, bucket, Spare, Linking};
+use pack_answer::answer::Packed;
+use pack_answer::entry::add_capped;
+use pack_answer::entry::is_blob;
+use pack_answer::entry::is_stored;
 use pack_links::Place;
-use pack_plain::entry::add_capped;
-use pack_plain::entry::is_blob;
-use pack_plain::entry::is_stored;
-use pack_plain::plain::Packed;
-use pack_plain::plain::pack_plain;
+use pack_links::unlink_all;
+use pack_plain::pack_plain;
 use wire::error::WireError;
 use wire::layout::ENTRY_WORDS;
 use wire_check::table::first_bad;
@@ -110,27 +111,6 @@ fn link_all(values: &mut [u64]) -> u64
         }
     }
     sum
-}
-
-fn plain_word(values: &[u64], k: usize) -> u64
-    requires { ⌜ k < length (now values) ⌝ }
-    ensures { λ r. ⌜ r ≡ plainWord (now (values .entry)) k ⌝ }
-{
-    if k % 5 < 3 {
-        return values[k] % 65536;
-    }
-    values[k]
-}
-
-// Takes all links out.
-fn unlink_all(values: &mut [u64])
-    ensures { λ r. ⌜ now (values .exit) ≡ plain (now (values .entry)) ⌝ }
-{
-    let mut k = 0;
-    while k < values.len() {
-        values[k] = plain_word(values, k);
-        k += 1;
-    }
 }
 
 // The fourth word of the entry i after packing, where the next pair goes to `at`.

@@ -6,3 +6,4 @@ pub mod TurnLaws
 pub mod MoveLaws
 pub mod CopyLaws
 pub mod SpareLaws
+pub mod Unique

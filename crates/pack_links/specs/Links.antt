@@ -127,6 +127,10 @@ plainWord t k = pick ((k % 5) <? 3) (getD t k 0 % 65_536) (getD t k 0)
 unfoldable pub plain : List ℕ → List ℕ
 plain t = table (plainWord t) 0 (length t)
 
+-- a table that held t holds it without its links
+abbrev pub Unlinks : List ℕ → List ℕ → Type 0
+Unlinks t after = after ≡ plain t
+
 -- the entry i of a linked table is the first use of its pair where the link over its type does not go back
 abbrev pub goesOn : List ℕ → ℕ → Bool
 goesOn t i = (link t (5 * i + 1) =? 0) || i <? link t (5 * i + 1)

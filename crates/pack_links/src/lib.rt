@@ -1,5 +1,10 @@
-// Theorems only, and what a search along the links ends at: links between the entries of a value table that name one pair of
-// offset and length, kept in the spare bits of their words while packing runs.
+// Links between the entries of a value table that name one pair of offset and length, kept in the spare bits of their words
+// while packing runs: what a search along them ends at, how all are taken out, and their laws.
+ghost use Prim.Native.Nat.{_<_};
+ghost use mathlib.Core.Path.{_≡_};
+ghost use lib.ListN.{length};
+ghost use Rattle.pack_links.specs.Links.{plainWord, Unlinks};
+
 pub enum Place {
     // the entry that has the pair
     Known(usize),
@@ -7,4 +12,25 @@ pub enum Place {
     Free(usize),
     // no pair to look for
     Nowhere,
+}
+
+fn plain_word(values: &[u64], k: usize) -> u64
+    requires { ⌜ k < length (now values) ⌝ }
+    ensures { λ r. ⌜ r ≡ plainWord (now (values .entry)) k ⌝ }
+{
+    if k % 5 < 3 {
+        return values[k] % 65536;
+    }
+    values[k]
+}
+
+// Takes all links out of a table.
+pub fn unlink_all(values: &mut [u64])
+    ensures { λ r. ⌜ Unlinks (now (values .entry)) (now (values .exit)) ⌝ }
+{
+    let mut k = 0;
+    while k < values.len() {
+        values[k] = plain_word(values, k);
+        k += 1;
+    }
 }

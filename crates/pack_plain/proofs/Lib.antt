@@ -1,4 +1,3 @@
--- Laws of the plain walks and of the answer, and one result for each statement.
+-- Laws of the plain walks, and one result for the statement.
 pub mod PlainLaws
-pub mod AnswerLaws
 pub mod Unique

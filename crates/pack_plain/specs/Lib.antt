@@ -1,3 +1,1 @@
--- Document 01's answers for packing, and the statements of the functions.
-pub mod Paper
-pub mod Statement
+-- Nothing to believe: the statement is `Packs` of `pack_answer`.

@@ -18,9 +18,9 @@ use Rattle.words.proofs.DecideLaws.{first-all}
 use Rattle.pack_pairs.specs.Packing.{packing, packedTable, packedArea, neededBytes}
 use Rattle.pack_pairs.specs.Uses.{packed, packedBytes, needed}
 use Rattle.pack_pairs.proofs.PackingLaws.{needed-is, packed-is, area-is}
-use Rattle.pack_plain.specs.Statement.{Packs}
-use Rattle.pack_plain.specs.declared.plain.Packed.the-variants.{Filled}
-use Rattle.pack_plain.proofs.AnswerLaws.{over-all, table-long}
+use Rattle.pack_answer.specs.Statement.{Packs}
+use Rattle.pack_answer.specs.declared.answer.Packed.the-variants.{Filled}
+use Rattle.pack_answer.proofs.AnswerLaws.{over-all, table-long}
 
 -- where the order of three checks accepts, each of them was passed
 all-passed : (a b c : Bool) (v w x : List ℕ) (n m : ℕ) → accepted n [] ≡ decide (a ⇒ refuse 18 v ∷ b ⇒ refuse 18 w ∷ c ⇒ refuse 17 x ∷ []) (accepted m [])

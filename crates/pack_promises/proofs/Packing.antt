@@ -32,10 +32,10 @@ use Rattle.pack_pairs.proofs.PairLaws.{either, has-in}
 use Rattle.pack_pairs.proofs.RoomLaws.{length-bytes}
 use Rattle.pack_pairs.proofs.RuleLaws.{good-inside}
 use Rattle.pack_pairs.proofs.UseLaws.{not-true-false}
-use Rattle.pack_plain.specs.Statement.{Packs}
-use Rattle.pack_plain.specs.declared.plain.Packed.{Packed}
-use Rattle.pack_plain.specs.declared.plain.Packed.the-variants.{Filled, Refused}
-use Rattle.pack_plain.proofs.Unique.{pack-plain-unique}
+use Rattle.pack_answer.specs.Statement.{Packs}
+use Rattle.pack_answer.specs.declared.answer.Packed.{Packed}
+use Rattle.pack_answer.specs.declared.answer.Packed.the-variants.{Filled, Refused}
+use Rattle.pack_answer.proofs.Unique.{packs-unique}
 use Rattle.pack_promises.specs.Packing.{Begins, PackKeepsContent, PackMovesOffsetsAlone, PackWritesTheSame, PackTwice, PackPairs, PackRoom, PackAccepts, PackRefusalKeeps}
 use Rattle.pack_promises.proofs.TwiceLaws.{packed-long, packed-other, offset-new, room-kept, packed-twice, bytes-twice}
 use Rattle.pack_promises.proofs.SameLaws.{content-as-before, bytes-as-before, writing-as-before}
@@ -127,7 +127,7 @@ pack-twice area values out n values′ out′ told second same third r values″
     rw (f .table, entries-kept, at) (bytes-twice values area (drop n second) inside (entriesIn values) (omega arith)) in
     let sum : needed values′ ≡ n = ap needed (f .table) ∙ needs ∙ sym (f .sum) in
     let there = packs second values′ third (rw (f .table, packed-long values) (f .whole)) none (omega (arith, sum)) in
-    let one = pack-plain-unique second values′ third (r, values″, third′) (Filled (needed values′), packed values′, over (packedBytes second values′ (entriesIn values′)) third) again there in (
+    let one = packs-unique second values′ third (r, values″, third′) (Filled (needed values′), packed values′, over (packedBytes second values′ (entriesIn values′)) third) again there in (
       ap (λ (x : Packed × List ℕ × List ℕ). x .0) one ∙ ap Filled sum,
       ap (λ (x : Packed × List ℕ × List ℕ). x .1) one ∙ ap packed (f .table) ∙ packed-twice values (f .whole) ∙ sym (f .table),
       ap (λ (x : Packed × List ℕ × List ℕ). take n (x .2)) one ∙ ap (λ (l : List ℕ). take n (over l third)) bytes
@@ -172,6 +172,6 @@ pack-accepts area values out r values′ out′ told = (
       record { whole = f .whole; good = λ i h. f .good (entryWords * i) (omega arith) (omega arith) }),
   (λ able fits.
       let there = packs area values out (able .whole) (none-found area values (able .good)) (omega (arith, needed-is values, fits)) in
-      let one = pack-plain-unique area values out (r, values′, out′) (Filled (needed values), packed values, over (packedBytes area values (entriesIn values)) out) told there in
+      let one = packs-unique area values out (r, values′, out′) (Filled (needed values), packed values, over (packedBytes area values (entriesIn values)) out) told there in
       ap (λ (x : Packed × List ℕ × List ℕ). x .0) one ∙ ap Filled (needed-is values)),
 )

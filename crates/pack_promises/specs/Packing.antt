@@ -19,9 +19,9 @@ use Rattle.wire_write.specs.Statement.{Encodes}
 use Rattle.wire_write.specs.declared.write.Encoded.{Encoded}
 use Rattle.pack_pairs.specs.Pairs.{typeAt, stored, Pair, has, pairAt, distinct, sizes, bytesOfPairs}
 use Rattle.pack_pairs.specs.Packing.{capped, packing, packedTable, packedArea}
-use Rattle.pack_plain.specs.Statement.{Packs}
-use Rattle.pack_plain.specs.declared.plain.Packed.{Packed}
-use Rattle.pack_plain.specs.declared.plain.Packed.the-variants.{Filled, Refused}
+use Rattle.pack_answer.specs.Statement.{Packs}
+use Rattle.pack_answer.specs.declared.answer.Packed.{Packed}
+use Rattle.pack_answer.specs.declared.answer.Packed.the-variants.{Filled, Refused}
 
 -- an area that begins with the n bytes that were filled: the second area itself, or those bytes alone
 abbrev pub Begins : ℕ → List ℕ → List ℕ → Type 0

@@ -1,6 +1,6 @@
 -- `pack` meets its contract: a table too long for links, 18 by its rules, or with links. Assumes nothing.
 use native.Mathlib.Omega.{arith}
-use Rattle.pack_plain.proofs.AnswerLaws.{rule-1, rule-3}
+use Rattle.pack_answer.proofs.AnswerLaws.{rule-1, rule-3}
 use borrow.Author.Needs.{needs}
 use Rattle.pack.proofs.pack.Statement.{statement}
 use Rattle.pack.proofs.pack.Tie as tie

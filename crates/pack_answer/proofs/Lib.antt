@@ -1,0 +1,3 @@
+-- Laws of the answer, and one result for each statement.
+pub mod AnswerLaws
+pub mod Unique
