@@ -798,6 +798,101 @@ fn notes(table: &mut Table, rowset_rate: f64) {
     }
 }
 
+/// The words of a value in a table, and the bytes of each string that is packed.
+const VALUE: usize = 5;
+const STRING: usize = 20;
+
+/// A table of strings, of which each lies at the place of the given number, and its area.
+fn strings(count: usize, place: impl Fn(usize) -> usize) -> (Vec<u8>, Vec<u64>) {
+    let values = (0..count)
+        .flat_map(|i| [7, 16, 0, (STRING * place(i)) as u64, STRING as u64])
+        .collect();
+    (noise(STRING * count), values)
+}
+
+/// A packing of a table and its area, ready to be timed.
+struct Packing {
+    area: Vec<u8>,
+    values: Vec<u64>,
+    out: Vec<u8>,
+}
+
+impl Packing {
+    fn of((area, values): (Vec<u8>, Vec<u64>)) -> Self {
+        let out = vec![0u8; area.len()];
+        Self { area, values, out }
+    }
+
+    /// Nanoseconds of one call over a fresh copy of the table.
+    fn once(&mut self) -> f64 {
+        let mut values = self.values.clone();
+        let start = clock();
+        let outcome = black_box(face::pack(&self.area, &mut values, &mut self.out));
+        let taken = (clock() - start) as f64;
+        assert!(outcome.kind == face::ACCEPTED);
+        taken
+    }
+}
+
+/// The least of as many rounds of two calls, taken in turn. Memory that others use meanwhile shows in
+/// large tables, and the least time has least of it.
+fn least_of_two(mut first: impl FnMut() -> f64, mut second: impl FnMut() -> f64) -> (f64, f64) {
+    (0..2 * ROUNDS)
+        .map(|_| (first(), second()))
+        .fold((f64::INFINITY, f64::INFINITY), |(a, b), (c, d)| {
+            (a.min(c), b.min(d))
+        })
+}
+
+/// Packing, which the Rust has not. In its place stands what `encode_rowset` takes for the same tables in
+/// rows of five, and then 2.5 times what packing half as many values takes.
+fn packing(table: &mut Table) {
+    const COUNT: usize = 500_000;
+    let rows = vec![5; COUNT / 5];
+    let places: [(&str, fn(usize) -> usize); 3] = [
+        ("pack 500,000 values, pairs distinct, beside writing", |i| i),
+        ("pack 500,000 values, pairs equal, beside writing", |_| 0),
+        ("pack 500,000 values, half repeated, beside writing", |i| {
+            i % (COUNT / 2)
+        }),
+    ];
+    for (name, place) in places {
+        table.line(name, STRING * COUNT, Some(0.1), || {
+            let (area, values) = strings(COUNT, place);
+            let mut out = vec![0u8; 64 + COUNT * (16 + STRING)];
+            let mut packing = Packing::of((area.clone(), values.clone()));
+            let encode = || {
+                let start = clock();
+                let outcome = black_box(face::encode_rowset(&area, &rows, &values, &mut out));
+                let taken = (clock() - start) as f64;
+                assert!(outcome.kind == face::ACCEPTED);
+                taken
+            };
+            let (rust, port) = least_of_two(encode, || packing.once());
+            Times {
+                rust,
+                port,
+                wrapped: f64::NAN,
+            }
+        });
+    }
+    for count in [125_000, 250_000, 500_000, 1_000_000] {
+        for (kind, parts) in [("pairs distinct", 1), ("half repeated", 2)] {
+            let name = format!("pack {} values, {kind}, beside 2.5 times {count}", 2 * count);
+            table.line(&name, 2 * STRING * count, Some(1.0), || {
+                let of = |count: usize| Packing::of(strings(count, |i| i % (count / parts)));
+                let (mut half, mut whole) = (of(count), of(2 * count));
+                let (rust, port) = least_of_two(|| half.once(), || whole.once());
+                Times {
+                    rust: 2.5 * rust,
+                    port,
+                    wrapped: f64::NAN,
+                }
+            });
+        }
+    }
+}
+
 fn main() {
     let mut table = Table {
         wanted: std::env::args().skip(1).collect(),
@@ -808,6 +903,7 @@ fn main() {
     checksums(&mut table);
     packets(&mut table);
     let rowset_rate = rowsets(&mut table);
+    packing(&mut table);
     guids(&mut table);
     notes(&mut table, rowset_rate);
     let (from, mut to) = (noise(1 << 26), vec![0u8; 1 << 26]);

@@ -2,6 +2,7 @@
 //! found missing once. They stand beside `edges`, from which the stored sample of `replay` is chosen.
 
 use crate::edges::{ID, NO_ID, header, rowset, word};
+use crate::pack;
 use crate::packets::{SIGNATURE, Wire, id_of, part_table};
 use crate::rowsets::NULL;
 use crate::sums;
@@ -22,6 +23,7 @@ pub fn list() -> Vec<String> {
     caps(&mut lines);
     large_reads(&mut lines);
     lengths(&mut lines);
+    pack::corners(&mut lines);
     yson::corners(&mut lines);
     lines
 }

@@ -6,6 +6,7 @@
 mod corners;
 mod damaged;
 mod edges;
+mod pack;
 mod packets;
 mod random;
 mod rowsets;
@@ -25,7 +26,7 @@ use text::{hex, hex_or_dash};
 type Make = fn(&mut Random) -> String;
 
 /// Each kind with its share of a run.
-const KINDS: [(&str, u64, Make); 27] = [
+const KINDS: [(&str, u64, Make); 28] = [
     ("crc", 30, crc),
     ("checksum", 20, checksum),
     ("fold", 10, sums::fold),
@@ -51,6 +52,7 @@ const KINDS: [(&str, u64, Make); 27] = [
     ("rowset-size", 30, rowsets::size),
     ("value", 60, rowsets::value),
     ("plain", 50, rowsets::plain),
+    ("pack", 60, pack::case),
     ("yson", 60, yson::case),
     ("bad", 2, bad),
 ];

@@ -13,10 +13,10 @@ extern "C" {
 
 /* The version of this interface. The function's name carries it, and every file that includes this header refers to the
  * function: an archive of another version does not link. */
-#define CABLEFINCH_FACE 4
-uint64_t cablefinch_face_4(void);
+#define CABLEFINCH_FACE 5
+uint64_t cablefinch_face_5(void);
 #if defined(__GNUC__)
-static uint64_t (*const cablefinch_face_linked)(void) __attribute__((used)) = cablefinch_face_4;
+static uint64_t (*const cablefinch_face_linked)(void) __attribute__((used)) = cablefinch_face_5;
 #endif
 
 /* Answers. */
@@ -228,6 +228,16 @@ cablefinch_outcome *cablefinch_read_value(cablefinch_outcome *o, const uint8_t *
  * scalars and of Null 0, padding zero, at most CABLEFINCH_MAX_ROWSET_SIZE bytes. Two such inputs with the same rows
  * are the same bytes. */
 bool cablefinch_is_plain(const uint8_t *input, size_t n);
+
+/* Packs the area behind a value table: the bytes that its values name, each distinct pair of offset and length once, in
+ * the order of first use and without padding, go to the front of `out`, and the table's offsets are changed to where
+ * they lie there; empty values get offset 0. count: the bytes filled, which no pair shares with another, though equal
+ * bytes at two places stay two. With any row table cablefinch_encode_rowset writes from `out` and the changed table what
+ * it wrote from the area and the table as it was. Refused with CABLEFINCH_BAD_TABLE (rules 1 and 3), then
+ * CABLEFINCH_NO_ROOM with the bytes needed (2^64-1 for more); then neither the table nor `out` is changed. `area`,
+ * `values` and `out` must not overlap. */
+cablefinch_outcome *cablefinch_pack(cablefinch_outcome *o, const uint8_t *area, size_t n, uint64_t *values,
+        size_t value_words, uint8_t *out, size_t room);
 
 /* Any and Composite values, which are YSON in its binary form: one node and nothing behind it, with at most
  * CABLEFINCH_MAX_OPEN_BRACKETS of `[`, `{` and `<` open at once. Any other input is refused with CABLEFINCH_BAD_YSON or

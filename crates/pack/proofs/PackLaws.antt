@@ -11,12 +11,13 @@ use Rattle.wire_check.specs.Writing.{entriesIn, firstBad}
 use Rattle.wire_check.specs.Stages.{Good}
 use Rattle.wire_check.proofs.TableLaws.{none-bad}
 use Rattle.pack_pairs.specs.Packing.{capped}
-use Rattle.pack_pairs.specs.Uses.{needed, packed, packedBytes, Inside}
+use Rattle.pack_pairs.specs.Stages.{needed, packed, packedBytes, Inside}
 use Rattle.pack_pairs.proofs.RuleLaws.{good-inside}
 use Rattle.pack_answer.specs.Statement.{Packs}
 use Rattle.pack_answer.specs.declared.answer.Packed.the-variants.{Filled, Refused}
 use Rattle.pack_answer.proofs.AnswerLaws as answer
-use Rattle.pack_links.specs.Links.{Spare, Linking, plain, Movable}
+use Rattle.pack_links.specs.Statement.{plain}
+use Rattle.pack_links.specs.Stages.{Spare, Linking, Movable}
 use Rattle.pack_links.proofs.MoveLaws.{plain-is}
 use Rattle.pack_links.proofs.SpareLaws.{good-spare}
 

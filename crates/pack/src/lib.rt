@@ -6,9 +6,10 @@ ghost use lib.ListN.{length};
 ghost use Rattle.words.specs.Buffer.{stretch, over};
 ghost use Rattle.wire_check.specs.Writing.{entriesIn, firstBad};
 ghost use Rattle.pack_pairs.specs.Packing.{capped};
-ghost use Rattle.pack_pairs.specs.Uses.{same, needed, packed, packedBytes, Inside};
+ghost use Rattle.pack_pairs.specs.Stages.{same, needed, packed, packedBytes, Inside};
 ghost use Rattle.pack_answer.specs.Statement.{Packs};
-ghost use Rattle.pack_links.specs.Links.{link, settled, linkedTo, plain, wordFor, roomFor, Movable, Climbs, Finds, Looks, bucket, Spare, Linking};
+ghost use Rattle.pack_links.specs.Statement.{plain};
+ghost use Rattle.pack_links.specs.Stages.{link, settled, linkedTo, wordFor, roomFor, Movable, Climbs, Finds, Looks, bucket, Spare, Linking};
 use pack_answer::answer::Packed;
 use pack_answer::entry::add_capped;
 use pack_answer::entry::is_blob;
@@ -57,13 +58,15 @@ fn find(values: &[u64], i: usize, head: usize) -> Place
     Place::Free(slot)
 }
 
-// The word over which the tree of a pair's bucket is linked.
+// The word over which the tree of a pair's bucket is linked. Buckets of pairs that lie near each other lie near each other, so
+// that a table in the order of its area is walked in that order; 64 KiB of the area make a block, and the blocks are scattered,
+// so that pairs at equal distances do not share a few buckets.
 fn bucket_word(offset: u64, length: u64, size: usize) -> usize
     requires { ⌜ (0 < size) × (size < 2 ^ 48) ⌝ }
     ensures { λ r. ⌜ r ≡ bucket offset length size ⌝ }
 {
-    let mixed = offset % 2147483648 * 2654435769 + length % 1073741824 * 2246822519;
-    5 * (mixed / 1048576 % (size as u64)) as usize
+    let block = offset / 65536 % 1048576 * 2654435769 / 1024;
+    5 * ((block + offset / 16 + length % 65536) % (size as u64)) as usize
 }
 
 // Where the entry i belongs.
@@ -120,8 +123,9 @@ fn new_word(values: &[u64], i: usize, at: u64) -> u64
 {
     let kind = values[5 * i + 1] % 65536;
     let link = values[5 * i + 1] / 65536;
+    let word = values[5 * i + 3];
     if !is_blob(kind) {
-        return values[5 * i + 3];
+        return word;
     }
     if values[5 * i + 4] == 0 {
         return 0;

@@ -12,7 +12,7 @@ use Rattle.words.specs.declared.outcome.Room.the-variants.{Output}
 use Rattle.wire.specs.declared.error.WireError.the-variants.{BadTable, NoRoom}
 use Rattle.wire_check.specs.Writing.{entriesIn, firstBad}
 use Rattle.pack_pairs.specs.Packing.{capped, packing, packedTable, packedArea, neededBytes, placedWord}
-use Rattle.pack_pairs.specs.Uses.{packed, packedBytes, needed, Inside}
+use Rattle.pack_pairs.specs.Stages.{packed, packedBytes, needed, Inside}
 use Rattle.pack_pairs.proofs.RoomLaws.{capped-most, capped-small, length-table}
 use Rattle.pack_pairs.proofs.PackingLaws.{needed-is, packed-is, area-is}
 use Rattle.pack_pairs.proofs.RuleLaws.{good-inside}

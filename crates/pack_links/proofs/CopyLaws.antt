@@ -13,9 +13,9 @@ use Rattle.words.specs.Buffer.{stretch, over, fitted}
 use Rattle.words.proofs.BufferLaws.{length-over}
 use Rattle.words.proofs.LentLaws.{lent-fitted}
 use Rattle.pack_pairs.specs.Pairs.{offsetAt, lengthAt, stored}
-use Rattle.pack_pairs.specs.Uses.{firstUse, isNew, roomOf, room, packedBytes, needed, Inside}
+use Rattle.pack_pairs.specs.Stages.{firstUse, isNew, roomOf, room, packedBytes, needed, Inside}
 use Rattle.wire_check.specs.Writing.{entriesIn}
-use Rattle.pack_links.specs.Links.{roomFor, Movable}
+use Rattle.pack_links.specs.Stages.{roomFor, Movable}
 use Rattle.pack_pairs.proofs.UseLaws.{both-true}
 use Rattle.pack_links.proofs.MoveLaws.{offset-is, room-for-is, room-next}
 use Rattle.pack_pairs.proofs.RoomLaws.{room-grows, length-stretch, room-inside, length-bytes}

@@ -10,10 +10,10 @@ use lib.ListN.{length, getD}
 use borrow.Author.Tests.{eq-eqb, ne-eqb, eqb-true}
 use Rattle.words.specs.Decide.{pick, _=?_}
 use Rattle.pack_pairs.specs.Pairs.{offsetAt, lengthAt}
-use Rattle.pack_pairs.specs.Uses.{same}
+use Rattle.pack_pairs.specs.Stages.{same}
 use Rattle.pack_pairs.proofs.UseLaws.{same-alike, alike-same}
-use Rattle.pack_links.specs.Links.{link, behind, Leads, Reaches, here, onward, Linked, Climbs, Grows, Comes, Sought, Ends, Finds}
-use Rattle.pack_pairs.specs.Uses.{Alike}
+use Rattle.pack_links.specs.Stages.{link, behind, Leads, Reaches, here, onward, Linked, Climbs, Grows, Comes, Sought, Ends, Finds}
+use Rattle.pack_pairs.specs.Stages.{Alike}
 use Rattle.pack_links.specs.declared.Place.{Place}
 use Rattle.pack_links.specs.declared.Place.the-variants.{Known, Free}
 

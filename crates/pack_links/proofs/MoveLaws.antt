@@ -14,11 +14,12 @@ use Rattle.words.specs.Decide.{pick, _<?_}
 use Rattle.words.proofs.DecideLaws.{le-or-gt}
 use Rattle.wire.specs.Layout.{blob}
 use Rattle.pack_pairs.specs.Pairs.{typeAt, offsetAt, lengthAt, stored}
-use Rattle.pack_pairs.specs.Uses.{firstUse, roomOf, room, newOffset, newWord, packedWord, packed, needed}
+use Rattle.pack_pairs.specs.Stages.{firstUse, roomOf, room, newOffset, newWord, packedWord, packed, needed}
 use Rattle.pack_pairs.specs.Packing.{table}
 use Rattle.wire_check.specs.Writing.{entriesIn}
-use Rattle.pack_links.specs.Links.{link, behind, Linked, storedUnder, Over, Settled, Linking, plainWord, plain, goesOn, wordFor, roomFor, Movable, settled}
-use Rattle.pack_pairs.specs.Uses.{New}
+use Rattle.pack_links.specs.Statement.{plainWord, plain}
+use Rattle.pack_links.specs.Stages.{link, behind, Linked, storedUnder, Over, Settled, Linking, goesOn, wordFor, roomFor, Movable, settled}
+use Rattle.pack_pairs.specs.Stages.{New}
 use Rattle.pack_pairs.proofs.UseLaws.{both-true, use-new, use-alike, new-use}
 use Rattle.pack_pairs.proofs.RoomLaws.{room-grows, choose, packed-else, packed-fourth, new-word-stored, table-same, length-table}
 use Rattle.pack_links.proofs.TurnLaws.{Turned, turned-begin, turned-end, turned-keep, turned-set}

@@ -8,7 +8,7 @@ use lib.ListN.{length, getD, List·getD-eq-default}
 use Rattle.words.proofs.DecideLaws.{le-or-gt}
 use Rattle.wire_check.specs.Stages.{Good}
 use Rattle.pack_pairs.proofs.RuleLaws.{Fair, entry-fair}
-use Rattle.pack_links.specs.Links.{Spare}
+use Rattle.pack_links.specs.Stages.{Spare}
 
 module _ (area values : List ℕ) (whole : length values % 5 ≡ 0) (good : Good area values) where
   small : (s : ℕ) → s % 5 < 3 → getD values s 0 < 65_536

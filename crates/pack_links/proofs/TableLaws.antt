@@ -10,9 +10,9 @@ use lib.ListN.{length, getD, set, length-set}
 use lib.Seq.{getD-set-same, getD-set-other}
 use Rattle.words.proofs.DecideLaws.{le-or-gt}
 use Rattle.pack_pairs.specs.Pairs.{offsetAt, lengthAt, stored}
-use Rattle.pack_pairs.specs.Uses.{firstUse}
-use Rattle.pack_links.specs.Links.{link, behind, Leads, here, onward, Reaches, Linked, Climbs, Grows, Comes, Ends, Finds, bucket, headOf, storedUnder, Looks, Spare, Over, Settled, Linking}
-use Rattle.pack_pairs.specs.Uses.{Alike, New}
+use Rattle.pack_pairs.specs.Stages.{firstUse}
+use Rattle.pack_links.specs.Stages.{link, behind, Leads, here, onward, Reaches, Linked, Climbs, Grows, Comes, Ends, Finds, blockStart, bucket, headOf, storedUnder, Looks, Spare, Over, Settled, Linking}
+use Rattle.pack_pairs.specs.Stages.{Alike, New}
 use Rattle.pack_links.specs.declared.Place.{Place}
 use Rattle.pack_links.specs.declared.Place.the-variants.{Known, Free, Nowhere}
 use Rattle.pack_pairs.proofs.UseLaws.{use-most, use-alike, use-new, use-at}
@@ -85,7 +85,7 @@ bucket-over offset n size = omega arith
 
 pub bucket-within : (offset n size : ℕ) → 0 < size → bucket offset n size < 5 * size
 unfolding bucket
-bucket-within offset n size h = omega (arith, mod-lt ((offset % 2_147_483_648 * 2_654_435_769 + n % 1_073_741_824 * 2_246_822_519) / 1_048_576) h)
+bucket-within offset n size h = omega (arith, mod-lt (blockStart offset + offset / 16 + n % 65_536) h)
 
 pub looks : (t : List ℕ) (i head : ℕ) (r : Place) → head ≡ headOf t i → storedUnder t i ≡ true → Finds t i head r → Looks t i r
 looks t i head (Known j) e is finds = (is, finds)

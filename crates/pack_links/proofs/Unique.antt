@@ -3,7 +3,7 @@ use mathlib.Core.List.{List}
 use Prim.Native.Nat.{ℕ}
 use Rattle.words.specs.Statement.{OneResult}
 use Rattle.words.proofs.Unique.{equal-to-one}
-use Rattle.pack_links.specs.Links.{plain, Unlinks}
+use Rattle.pack_links.specs.Statement.{plain, Unlinks}
 
 pub unlink-all-unique : (t : List ℕ) → OneResult (Unlinks t)
 unlink-all-unique t = equal-to-one (plain t)

@@ -11,11 +11,11 @@ use borrow.Author.Tests.{lt-ltb, le-ltb}
 use Rattle.words.specs.Decide.{pick}
 use Rattle.words.proofs.DecideLaws.{le-or-gt}
 use Rattle.pack_pairs.specs.Pairs.{typeAt, lengthAt, stored}
-use Rattle.pack_pairs.specs.Uses.{firstUse, room, needed}
+use Rattle.pack_pairs.specs.Stages.{firstUse, room, needed}
 use Rattle.pack_pairs.specs.Packing.{capped}
 use Rattle.wire_check.specs.Writing.{entriesIn}
-use Rattle.pack_links.specs.Links.{link, behind, Linked, Climbs, Comes, Ends, bucket, headOf, storedUnder, Looks, linkedTo, Spare, Over, Linking}
-use Rattle.pack_pairs.specs.Uses.{Alike, New}
+use Rattle.pack_links.specs.Stages.{link, behind, Linked, Climbs, Comes, Ends, bucket, headOf, storedUnder, Looks, linkedTo, Spare, Over, Linking}
+use Rattle.pack_pairs.specs.Stages.{Alike, New}
 use Rattle.pack_links.specs.declared.Place.{Place}
 use Rattle.pack_links.specs.declared.Place.the-variants.{Known, Free, Nowhere}
 use Rattle.pack_pairs.proofs.UseLaws.{room-new, room-used, room-none}

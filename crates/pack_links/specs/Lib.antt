@@ -1,2 +1,3 @@
--- What the code of packing keeps in the table while it runs: nobody has to believe it.
-pub mod Links
+-- The statement of `unlink_all`, and what the code of packing keeps in the table while it runs.
+pub mod Statement
+pub mod Stages

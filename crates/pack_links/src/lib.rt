@@ -3,7 +3,7 @@
 ghost use Prim.Native.Nat.{_<_};
 ghost use mathlib.Core.Path.{_≡_};
 ghost use lib.ListN.{length};
-ghost use Rattle.pack_links.specs.Links.{plainWord, Unlinks};
+ghost use Rattle.pack_links.specs.Statement.{plainWord, Unlinks};
 
 pub enum Place {
     // the entry that has the pair

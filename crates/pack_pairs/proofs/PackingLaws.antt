@@ -14,7 +14,7 @@ use Rattle.wire.specs.Layout.{entryWords, blob}
 use Rattle.wire_check.specs.Writing.{entriesIn}
 use Rattle.pack_pairs.specs.Pairs.{typeAt, offsetAt, lengthAt, stored, Pair, pair, pairAt, pairs, distinct, before, bytesAt, bytesOfPairs}
 use Rattle.pack_pairs.specs.Packing.{placed, table, placedWord, packedTable, packedArea, neededBytes}
-use Rattle.pack_pairs.specs.Uses.{Alike, New, firstUse, isNew, roomOf, room, packedBytes, newOffset, newWord, packedWord, packed, needed}
+use Rattle.pack_pairs.specs.Stages.{Alike, New, firstUse, isNew, roomOf, room, packedBytes, newOffset, newWord, packedWord, packed, needed}
 use Rattle.pack_pairs.proofs.RoomLaws.{choose}
 use Rattle.pack_pairs.proofs.UseLaws.{use-alike, use-new, use-most, new-use}
 use Rattle.pack_pairs.proofs.PairLaws.{either, pairs-none, pairs-used, pairs-new, has-in, new-not-had, room-total, offset-before}

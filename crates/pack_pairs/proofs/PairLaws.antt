@@ -8,8 +8,8 @@ use native.Mathlib.Nat.{eq-or-lt-of-le}
 use native.Mathlib.Omega.{arith}
 use Rattle.words.specs.Decide.{pick}
 use Rattle.pack_pairs.specs.Pairs.{offsetAt, lengthAt, stored}
-use Rattle.pack_pairs.specs.Uses.{same, firstUse, room, newOffset}
-use Rattle.pack_pairs.specs.Uses.{Alike, New}
+use Rattle.pack_pairs.specs.Stages.{same, firstUse, room, newOffset}
+use Rattle.pack_pairs.specs.Stages.{Alike, New}
 use Rattle.pack_pairs.specs.Pairs.{Pair, pair, sizeOf, is, has, pairAt, pairs, sizes, before}
 use Rattle.pack_pairs.proofs.UseLaws.{alike-same, same-alike, not-true-false, use-alike, use-new, use-most, new-use, room-new, room-used, room-none}
 

@@ -18,7 +18,7 @@ use Rattle.wire.specs.Layout.{blob}
 use Rattle.wire_check.specs.Writing.{entriesIn}
 use Rattle.pack_pairs.specs.Pairs.{typeAt, offsetAt, lengthAt, stored}
 use Rattle.pack_pairs.specs.Packing.{table, capped}
-use Rattle.pack_pairs.specs.Uses.{firstUse, isNew, roomOf, room, packedBytes, newOffset, newWord, packedWord, Inside}
+use Rattle.pack_pairs.specs.Stages.{firstUse, isNew, roomOf, room, packedBytes, newOffset, newWord, packedWord, Inside}
 use Rattle.pack_pairs.proofs.UseLaws.{both-true}
 
 -- The room

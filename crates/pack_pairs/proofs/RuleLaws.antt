@@ -14,7 +14,7 @@ use Rattle.wire.proofs.TypeLaws.{blob-high, scalar-high}
 use Rattle.wire_check.specs.Writing.{idIn, typeIn, aggregateIn, bitsIn, lengthIn, entriesIn, bad}
 use Rattle.wire_check.specs.Stages.{Good}
 use Rattle.pack_pairs.specs.Pairs.{typeAt}
-use Rattle.pack_pairs.specs.Uses.{Inside}
+use Rattle.pack_pairs.specs.Stages.{Inside}
 use Rattle.pack_pairs.proofs.UseLaws.{both-true}
 
 or-false : (a b : Bool) → (a || b) ≡ false → (a ≡ false) × (b ≡ false)

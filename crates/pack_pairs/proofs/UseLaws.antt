@@ -11,8 +11,8 @@ use borrow.Author.Tests.{eq-eqb, ne-eqb, eqb-true}
 use Rattle.words.specs.Decide.{pick, first, _=?_}
 use Rattle.words.proofs.DecideLaws.{first-most, first-holds, first-none, first-at, first-all}
 use Rattle.pack_pairs.specs.Pairs.{offsetAt, lengthAt, stored}
-use Rattle.pack_pairs.specs.Uses.{same, firstUse, isNew, room}
-use Rattle.pack_pairs.specs.Uses.{Alike, New}
+use Rattle.pack_pairs.specs.Stages.{same, firstUse, isNew, room}
+use Rattle.pack_pairs.specs.Stages.{Alike, New}
 
 pub both-true : (a b : Bool) → (a && b) ≡ true → (a ≡ true) × (b ≡ true)
 both-true true b e = (refl, e)

@@ -22,7 +22,7 @@ use Rattle.wire.specs.Layout.{blob}
 use Rattle.wire_check.specs.Writing.{entriesIn}
 use Rattle.pack_pairs.specs.Pairs.{typeAt, offsetAt, lengthAt, stored}
 use Rattle.pack_pairs.specs.Packing.{table, capped}
-use Rattle.pack_pairs.specs.Uses.{same, firstUse, roomOf, room, newOffset, newWord, packedWord, packed, packedBytes, needed, Inside}
+use Rattle.pack_pairs.specs.Stages.{same, firstUse, roomOf, room, newOffset, newWord, packedWord, packed, packedBytes, needed, Inside}
 use Rattle.pack_pairs.proofs.UseLaws.{use-most}
 use Rattle.pack_pairs.proofs.RoomLaws.{room-grows, room-more, packed-else, packed-fourth, capped-add, table-same, length-stretch, room-inside, length-bytes}
 

@@ -7,7 +7,7 @@ ghost use Rattle.words.specs.Buffer.{stretch, over};
 ghost use Rattle.wire_check.specs.Writing.{entriesIn};
 ghost use Rattle.pack_pairs.specs.Pairs.{stored};
 ghost use Rattle.pack_pairs.specs.Packing.{capped};
-ghost use Rattle.pack_pairs.specs.Uses.{same, firstUse, roomOf, room, newOffset, newWord, packed, packedBytes, needed, Inside};
+ghost use Rattle.pack_pairs.specs.Stages.{same, firstUse, roomOf, room, newOffset, newWord, packed, packedBytes, needed, Inside};
 ghost use Rattle.pack_answer.specs.Statement.{Packs};
 use pack_answer::answer::Packed;
 use pack_answer::entry::add_capped;

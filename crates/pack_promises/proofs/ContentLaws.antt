@@ -12,7 +12,7 @@ use borrow.Author.Tests.{eq-eqb}
 use Rattle.words.specs.Buffer.{stretch}
 use Rattle.wire_check.specs.Writing.{entriesIn}
 use Rattle.pack_pairs.specs.Pairs.{offsetAt, lengthAt, stored}
-use Rattle.pack_pairs.specs.Uses.{New, firstUse, roomOf, room, newOffset, packedBytes, needed, Inside}
+use Rattle.pack_pairs.specs.Stages.{New, firstUse, roomOf, room, newOffset, packedBytes, needed, Inside}
 use Rattle.pack_pairs.proofs.UseLaws.{use-alike, use-new, use-most, new-use}
 use Rattle.pack_pairs.proofs.RoomLaws.{room-grows, length-bytes, length-stretch, room-inside}
 

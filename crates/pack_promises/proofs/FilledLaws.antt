@@ -16,7 +16,7 @@ use Rattle.wire_check.specs.Stages.{Good}
 use Rattle.wire_check.proofs.TableLaws.{none-bad}
 use Rattle.words.proofs.DecideLaws.{first-all}
 use Rattle.pack_pairs.specs.Packing.{packing, packedTable, packedArea, neededBytes}
-use Rattle.pack_pairs.specs.Uses.{packed, packedBytes, needed}
+use Rattle.pack_pairs.specs.Stages.{packed, packedBytes, needed}
 use Rattle.pack_pairs.proofs.PackingLaws.{needed-is, packed-is, area-is}
 use Rattle.pack_answer.specs.Statement.{Packs}
 use Rattle.pack_answer.specs.declared.answer.Packed.the-variants.{Filled}

@@ -16,7 +16,7 @@ use Rattle.wire_check.specs.Writing.{entriesIn, bad, badEntry, firstBad}
 use Rattle.wire_check.specs.Stages.{Good}
 use Rattle.wire_check.proofs.TableLaws.{none-wrong}
 use Rattle.pack_pairs.specs.Pairs.{typeAt, offsetAt, lengthAt, stored}
-use Rattle.pack_pairs.specs.Uses.{newWord, packed, packedBytes, needed, Inside}
+use Rattle.pack_pairs.specs.Stages.{newWord, packed, packedBytes, needed, Inside}
 use Rattle.pack_pairs.proofs.PairLaws.{either}
 use Rattle.pack_pairs.proofs.RoomLaws.{length-bytes, new-word-stored}
 use Rattle.pack_pairs.proofs.RuleLaws.{good-inside}

@@ -26,7 +26,7 @@ use Rattle.wire_write.specs.Statement.{Encodes}
 use Rattle.wire_write.specs.declared.write.Encoded.{Encoded}
 use Rattle.pack_pairs.specs.Pairs.{typeAt}
 use Rattle.pack_pairs.specs.Packing.{packing, packedTable, packedArea, neededBytes, capped}
-use Rattle.pack_pairs.specs.Uses.{packed, packedBytes, room, needed, Inside}
+use Rattle.pack_pairs.specs.Stages.{packed, packedBytes, room, needed, Inside}
 use Rattle.pack_pairs.proofs.PackingLaws.{needed-is, area-is}
 use Rattle.pack_pairs.proofs.PairLaws.{either, has-in}
 use Rattle.pack_pairs.proofs.RoomLaws.{length-bytes}

@@ -14,7 +14,7 @@ use Rattle.words.proofs.DecideLaws.{le-or-gt}
 use Rattle.wire.specs.Layout.{blob}
 use Rattle.wire_check.specs.Writing.{entriesIn}
 use Rattle.pack_pairs.specs.Pairs.{typeAt, offsetAt, lengthAt, stored}
-use Rattle.pack_pairs.specs.Uses.{Alike, New, firstUse, isNew, roomOf, room, newOffset, newWord, packedWord, packed, packedBytes, Inside}
+use Rattle.pack_pairs.specs.Stages.{Alike, New, firstUse, isNew, roomOf, room, newOffset, newWord, packedWord, packed, packedBytes, Inside}
 use Rattle.pack_pairs.proofs.UseLaws.{both-true, use-most, use-alike, use-new, use-at, new-use}
 use Rattle.pack_pairs.proofs.RoomLaws.{length-table, getD-table, table-same, room-grows, choose, packed-else, packed-fourth, new-word-stored}
 use Rattle.pack_pairs.proofs.PairLaws.{either}

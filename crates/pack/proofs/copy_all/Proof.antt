@@ -4,7 +4,7 @@ use Prim.Native.Nat.{ℕ, _-_, _/_}
 use native.Mathlib.Omega.{arith}
 use borrow.Author.Needs.{needs}
 use Rattle.wire_check.specs.Writing.{entriesIn}
-use Rattle.pack_links.specs.Links.{plain}
+use Rattle.pack_links.specs.Statement.{plain}
 use Rattle.pack_links.proofs.MoveLaws.{plain-long}
 use Rattle.pack_links.proofs.CopyLaws.{Copying, copy-begin, copy-end, copy-long, copy-place, copy-inside, copy-asks, next-above, cut-asks, copy-go}
 use Rattle.pack.proofs.copy_all.Statement.{statement}

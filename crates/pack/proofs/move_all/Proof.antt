@@ -3,7 +3,7 @@ use mathlib.Core.Path.{_≡_, sym, ap}
 use Prim.Native.Nat.{ℕ, _-_, _/_}
 use native.Mathlib.Omega.{arith}
 use Rattle.wire_check.specs.Writing.{entriesIn}
-use Rattle.pack_links.specs.Links.{plain}
+use Rattle.pack_links.specs.Statement.{plain}
 use Rattle.pack_links.proofs.MoveLaws.{plain-long, Moving, move-begin, move-long, move-inside, next-asks, move-go, move-end}
 use Rattle.pack.proofs.move_all.Statement.{statement}
 use Rattle.pack.proofs.move_all.Tie as tie

@@ -2,7 +2,7 @@
 use Prim.Native.Nat.{_-_}
 use native.Mathlib.Omega.{arith}
 use lib.ListN.{length, length-set}
-use Rattle.pack_links.specs.Links.{plainWord}
+use Rattle.pack_links.specs.Statement.{plainWord}
 use Rattle.pack_links.proofs.TurnLaws.{Turned, turned-begin}
 use Rattle.pack_links.proofs.MoveLaws.{unlink-go, unlink-end}
 use Rattle.pack_links.proofs.unlink_all.Statement.{statement}

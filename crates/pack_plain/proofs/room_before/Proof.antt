@@ -4,7 +4,7 @@ use Prim.Native.Nat.{_≤_, _-_}
 use native.Mathlib.Omega.{arith}
 use borrow.Author.Needs.{needs}
 use Rattle.pack_pairs.specs.Packing.{capped}
-use Rattle.pack_pairs.specs.Uses.{room}
+use Rattle.pack_pairs.specs.Stages.{room}
 use Rattle.pack_plain.proofs.PlainLaws.{sum-begin, sum-more, sum-end}
 use Rattle.pack_plain.proofs.room_before.Statement.{statement}
 use Rattle.pack_plain.proofs.room_before.Tie as tie

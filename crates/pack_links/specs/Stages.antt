@@ -3,7 +3,7 @@
 -- bucket; those over the type and the aggregate of an entry go on from it. So each bucket is a tree, in which the search for
 -- a pair turns by the bits of its offset and its length in turn: two pairs part after 128 turns at the latest. Nothing that
 -- is proved depends on which bucket a pair has. Assumes nothing.
-use Prim.Native.Nat.{ℕ, zero, suc, _+_, _*_, _-_, _/_, _%_, _^_, _<_, _≤_}
+use Prim.Native.Nat.{ℕ, _+_, _*_, _-_, _/_, _%_, _^_, _<_, _≤_}
 use mathlib.Core.Path.{_≡_}
 use mathlib.Core.Logic.{_⊎_}
 use mathlib.Core.Bool.{Bool, true, false, _&&_, _||_}
@@ -12,8 +12,7 @@ use lib.ListN.{length, getD, set}
 use Rattle.words.specs.Decide.{pick, _<?_, _=?_}
 use Rattle.wire.specs.Layout.{blob}
 use Rattle.pack_pairs.specs.Pairs.{typeAt, offsetAt, lengthAt, stored}
-use Rattle.pack_pairs.specs.Uses.{Alike, New, firstUse, needed}
-use Rattle.pack_pairs.specs.Packing.{table}
+use Rattle.pack_pairs.specs.Stages.{Alike, New, firstUse, needed}
 use Rattle.pack_links.specs.declared.Place.{Place}
 use Rattle.pack_links.specs.declared.Place.the-variants.{Known, Free, Nowhere}
 
@@ -74,9 +73,13 @@ Finds t i head (Known j) = Linked t j × Alike t j i
 Finds t i head (Free s) = Ends t i head s
 Finds t i head Nowhere = ⊥
 
--- the bucket of a pair among n, by the word over which its tree is linked
+-- where the buckets of a block of the area begin
+abbrev pub blockStart : ℕ → ℕ
+blockStart offset = offset / 65_536 % 1_048_576 * 2_654_435_769 / 1_024
+
+-- the bucket of a pair among as many as there are entries, by the word over which its tree is linked
 unfoldable pub bucket : ℕ → ℕ → ℕ → ℕ
-bucket offset n size = 5 * ((offset % 2_147_483_648 * 2_654_435_769 + n % 1_073_741_824 * 2_246_822_519) / 1_048_576 % size)
+bucket offset n size = 5 * ((blockStart offset + offset / 16 + n % 65_536) % size)
 
 abbrev pub headOf : List ℕ → ℕ → ℕ
 headOf t i = bucket (offsetAt t i) (lengthAt t i) (length t / 5)
@@ -119,17 +122,6 @@ pub record Linking (values t : List ℕ) (i : ℕ) : Type 0 where
   pub fresh : (k x : ℕ) → i ≤ k → link t (behind k x) ≡ 0
   pub reached : (j : ℕ) → j < i → New values j → Leads t (headOf values j) (offsetAt values j) (lengthAt values j) j
   pub settled : (j : ℕ) → j < i → stored values j ≡ true → Settled values t j
-
--- t without its links
-abbrev pub plainWord : List ℕ → ℕ → ℕ
-plainWord t k = pick ((k % 5) <? 3) (getD t k 0 % 65_536) (getD t k 0)
-
-unfoldable pub plain : List ℕ → List ℕ
-plain t = table (plainWord t) 0 (length t)
-
--- a table that held t holds it without its links
-abbrev pub Unlinks : List ℕ → List ℕ → Type 0
-Unlinks t after = after ≡ plain t
 
 -- the entry i of a linked table is the first use of its pair where the link over its type does not go back
 abbrev pub goesOn : List ℕ → ℕ → Bool
