@@ -878,7 +878,10 @@ fn packing(table: &mut Table) {
     }
     for count in [125_000, 250_000, 500_000, 1_000_000] {
         for (kind, parts) in [("pairs distinct", 1), ("half repeated", 2)] {
-            let name = format!("pack {} values, {kind}, beside 2.5 times {count}", 2 * count);
+            let name = format!(
+                "pack {} values, {kind}, beside 2.5 times {count}",
+                2 * count
+            );
             table.line(&name, 2 * STRING * count, Some(1.0), || {
                 let of = |count: usize| Packing::of(strings(count, |i| i % (count / parts)));
                 let (mut half, mut whole) = (of(count), of(2 * count));

@@ -18,7 +18,9 @@ pub fn case(random: &mut Random) -> String {
     } else {
         hex_or_dash(&random.content(size as usize))
     };
-    let pool: Vec<(u64, u64)> = (0..1 + random.small(12)).map(|_| pair(random, size)).collect();
+    let pool: Vec<(u64, u64)> = (0..1 + random.small(12))
+        .map(|_| pair(random, size))
+        .collect();
     let count = if random.once_in(80) {
         random.below(700)
     } else {
@@ -111,7 +113,10 @@ fn spoil(random: &mut Random, values: &mut Vec<u64>, size: u64) {
             let at = 5 * random.below(values.len() as u64 / 5) as usize;
             let bad = match random.below(6) {
                 0 => (0, *random.pick(&[0xffff, 0x1_0000, 1 << 32, NULL])),
-                1 => (1, *random.pick(&[0, 1, 2, 6, 7, 15, 16, 18, 19, 258, 65_552, NULL])),
+                1 => (
+                    1,
+                    *random.pick(&[0, 1, 2, 6, 7, 15, 16, 18, 19, 258, 65_552, NULL]),
+                ),
                 2 => (2, *random.pick(&[1, 2, 255, 65_536, NULL])),
                 3 => (3, random.around_one_of(&[0, 1, size, NULL])),
                 4 => (4, random.around_one_of(&[0, 1, size, NULL])),
@@ -163,15 +168,25 @@ fn example(lines: &mut Vec<String>) {
     // The second row's bytes are the first's, at another place: they are stored twice.
     lines.push(line(9, &text(b"codcod"), &[0, 16, 0, 0, 3, 0, 16, 0, 3, 3]));
     // One inside the other, one over the other's end.
-    lines.push(line(9, &text(b"codling"), &[0, 16, 0, 0, 7, 0, 17, 0, 2, 2]));
-    lines.push(line(9, &text(b"codling"), &[0, 16, 0, 0, 4, 0, 17, 0, 3, 4]));
+    lines.push(line(
+        9,
+        &text(b"codling"),
+        &[0, 16, 0, 0, 7, 0, 17, 0, 2, 2],
+    ));
+    lines.push(line(
+        9,
+        &text(b"codling"),
+        &[0, 16, 0, 0, 4, 0, 17, 0, 3, 4],
+    ));
 }
 
 /// Each word of an entry at and beyond its bounds, for each type, before and behind entries that are
 /// good; tables that are not whole; no table; no area; and no room, with nothing to store.
 fn bounds(lines: &mut Vec<String>) {
     let good = [7, 16, 1, 1, 3];
-    for kind in [0, 1, 2, 3, 4, 5, 6, 7, 8, 15, 16, 17, 18, 19, 20, 255, 256, 272, 65_552, NULL] {
+    for kind in [
+        0, 1, 2, 3, 4, 5, 6, 7, 8, 15, 16, 17, 18, 19, 20, 255, 256, 272, 65_552, NULL,
+    ] {
         for (word, list) in [
             (0, &[0, 65_535, 65_536, NULL][..]),
             (2, &[0, 1, 2, 65_536, NULL]),

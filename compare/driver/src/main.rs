@@ -503,7 +503,12 @@ fn pack(room: u64, area: &[u8], values: &[u64]) -> Answer {
         return Ok(mark(or_refusal(&outcome, String::new), kept));
     }
     let (bytes, rest) = out.split_at(outcome.count as usize);
-    let text = format!("ok {} {} {}", outcome.count, words(&table), hex_or_dash(bytes));
+    let text = format!(
+        "ok {} {} {}",
+        outcome.count,
+        words(&table),
+        hex_or_dash(bytes)
+    );
     Ok(mark(text, bytes_kept(rest)))
 }
 
