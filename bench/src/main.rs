@@ -844,6 +844,30 @@ fn least_of_two(mut first: impl FnMut() -> f64, mut second: impl FnMut() -> f64)
         })
 }
 
+/// A table whose pairs all have bucket 0, as `bucket_word` of crates/pack has it: what a peer could send
+/// that knows it. The area is zeros, of which few are ever touched.
+fn one_bucket(count: usize) -> (Vec<u8>, Vec<u64>) {
+    let area = vec![0u8; 1 << 31];
+    let mut values = Vec::new();
+    'filled: for block in 0..1u64 << 15 {
+        let start = block * 2_654_435_769 / 1024;
+        for sixteen in 4096 * block..4096 * (block + 1) {
+            // A length that makes up for the rest, where there is one below 32.
+            let length = count as u64 - (start + sixteen) % count as u64;
+            if length < 32 {
+                for offset in 16 * sixteen..16 * (sixteen + 1) {
+                    if values.len() == 5 * count {
+                        break 'filled;
+                    }
+                    values.extend([7, 16, 0, offset, length]);
+                }
+            }
+        }
+    }
+    assert!(values.len() == 5 * count);
+    (area, values)
+}
+
 /// Packing, which the Rust has not. In its place stands what `encode_rowset` takes for the same tables in
 /// rows of five, and then 2.5 times what packing half as many values takes.
 fn packing(table: &mut Table) {
@@ -871,6 +895,23 @@ fn packing(table: &mut Table) {
             let (rust, port) = least_of_two(encode, || packing.once());
             Times {
                 rust,
+                port,
+                wrapped: f64::NAN,
+            }
+        });
+    }
+    for (name, hostile) in [
+        ("pack 100,000 values, pairs distinct", false),
+        ("pack 100,000 values, pairs of one bucket", true),
+    ] {
+        table.line(name, 0, None, || {
+            let mut packing = Packing::of(match hostile {
+                true => one_bucket(100_000),
+                false => strings(100_000, |i| i),
+            });
+            let (port, _) = least_of_two(|| packing.once(), || 0.0);
+            Times {
+                rust: f64::NAN,
                 port,
                 wrapped: f64::NAN,
             }
