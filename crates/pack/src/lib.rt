@@ -1,9 +1,9 @@
-// Packing with links: each pair is found by a search along links that are kept in the spare bits of the table's words while the
-// function runs, and are taken out before it returns.
+// Packing with links: each pair is found by a search along links that are kept in the spare bits of the table's words
+// while the function runs, and are taken out before it returns.
 ghost use mathlib.Core.Path.{_≡_};
 ghost use Prim.Native.Nat.{_+_, _*_, _^_, _<_, _≤_, _%_};
 ghost use lib.ListN.{length};
-ghost use Rattle.words.specs.Buffer.{stretch, over};
+ghost use Rattle.words.specs.Buffer.{over};
 ghost use Rattle.wire_check.specs.Writing.{entriesIn, firstBad};
 ghost use Rattle.pack_pairs.specs.Packing.{capped};
 ghost use Rattle.pack_pairs.specs.Stages.{same, needed, packed, packedBytes, Inside};
@@ -12,6 +12,7 @@ ghost use Rattle.pack_links.specs.Statement.{plain};
 ghost use Rattle.pack_links.specs.Stages.{link, settled, linkedTo, wordFor, roomFor, Movable, Climbs, Finds, Looks, bucket, Spare, Linking};
 use pack_answer::answer::Packed;
 use pack_answer::entry::add_capped;
+use pack_answer::entry::cut;
 use pack_answer::entry::is_blob;
 use pack_answer::entry::is_stored;
 use pack_links::Place;
@@ -58,9 +59,9 @@ fn find(values: &[u64], i: usize, head: usize) -> Place
     Place::Free(slot)
 }
 
-// The word over which the tree of a pair's bucket is linked. Buckets of pairs that lie near each other lie near each other, so
-// that a table in the order of its area is walked in that order; 64 KiB of the area make a block, and the blocks are scattered,
-// so that pairs at equal distances do not share a few buckets.
+// The word over which the tree of a pair's bucket is linked. Buckets of pairs that lie near each other lie near each
+// other, so that a table in the order of its area is walked in that order; 64 KiB of the area make a block, and the
+// blocks are scattered, so that pairs at equal distances do not share a few buckets.
 fn bucket_word(offset: u64, length: u64, size: usize) -> usize
     requires { ⌜ (0 < size) × (size < 2 ^ 48) ⌝ }
     ensures { λ r. ⌜ r ≡ bucket offset length size ⌝ }
@@ -188,19 +189,6 @@ fn move_all(values: &mut [u64])
     }
 }
 
-// n bytes of the area from `start` on.
-fn cut<'a>(area: &'a [u8], start: u64, n: u64) -> &'a [u8]
-    requires { ⌜ (0 < n → start + n ≤ length (now area)) ⌝ }
-    ensures { λ r. ⌜ now r ≡ stretch (now (area .entry)) start n ⌝ }
-{
-    if n == 0 {
-        return &area[..0];
-    }
-    let from = start as usize;
-    let end = from + n as usize;
-    &area[from..end]
-}
-
 // Copies each first use's bytes behind those before it.
 fn copy_all(area: &[u8], values: &[u64], out: &mut [u8])
     requires { ⌜ Movable (plain (now values)) (now values) ⌝ }
@@ -239,7 +227,8 @@ fn pack_linked(area: &[u8], values: &mut [u64], out: &mut [u8]) -> Packed
     Packed::Filled(sum)
 }
 
-// Packs the byte area behind a value table into a second one; a refusal leaves the table and the second area as they were.
+// Packs the byte area behind a value table into a second one; a refusal leaves the table and the second area as they
+// were.
 pub fn pack(area: &[u8], values: &mut [u64], out: &mut [u8]) -> Packed
     ensures { λ r. ⌜ Packs (now (area .entry)) (now (values .entry)) (now (out .entry)) r (now (values .exit)) (now (out .exit)) ⌝ }
 {

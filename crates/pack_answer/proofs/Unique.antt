@@ -6,6 +6,7 @@ use mathlib.Core.List.{List}
 use Prim.Native.Nat.{ℕ, _+_}
 use lib.ListN.{length}
 use Rattle.words.specs.Answer.{Answer}
+use Rattle.words.specs.Buffer.{stretch}
 use Rattle.words.specs.Decide.{_<?_}
 use Rattle.words.specs.Paper.{Tells, outcome}
 use Rattle.words.specs.Statement.{OneResult}
@@ -14,7 +15,7 @@ use Rattle.wire.specs.Layout.{blob}
 use Rattle.wire.proofs.PaperLaws.{refusalBack, refusal-back}
 use Rattle.pack_pairs.specs.Packing.{capped, packing, packedTable, packedArea}
 use Rattle.pack_answer.specs.Paper.{paperPacked}
-use Rattle.pack_answer.specs.Statement.{Packs, IsBlob, IsStored, AddsCapped}
+use Rattle.pack_answer.specs.Statement.{Packs, IsBlob, IsStored, CutIs, AddsCapped}
 use Rattle.pack_answer.specs.declared.answer.Packed.{Packed}
 use Rattle.pack_answer.specs.declared.answer.Packed.the-variants.{Filled, Refused}
 
@@ -42,6 +43,9 @@ is-blob-unique type = equal-to-one (blob type)
 
 pub is-stored-unique : (type n : ℕ) → OneResult (IsStored type n)
 is-stored-unique type n = equal-to-one (blob type && 0 <? n)
+
+pub cut-unique : (area : List ℕ) (start n : ℕ) → OneResult (CutIs area start n)
+cut-unique area start n = equal-to-one (stretch area start n)
 
 pub add-capped-unique : (sum more : ℕ) → OneResult (AddsCapped sum more)
 add-capped-unique sum more = equal-to-one (capped (sum + more))

@@ -58,9 +58,6 @@ module _ (area values : List ℕ) (inside : Inside area values) where
         more-is : next - at ≡ roomOf values i
         more-is = omega (arith, takes)
 
-        pub cut-asks : 0 < next - at → offsetAt t i + (next - at) ≤ length area
-        cut-asks some = rw (more-is, offset-is values t movable t i (λ k low. refl) h) (room-inside area values inside i h (omega (arith, more-is)))
-
         pub copy-go : (bytes last : List ℕ) → bytes ≡ stretch area (offsetAt t i) (next - at) → last ≡ fitted bytes (midOf at (length out - at) out)
             → Copying area values out₀ (putMid at (length out - at) out last) next (i + 1)
         unfolding packedBytes

@@ -1,4 +1,5 @@
--- A search along the links: each step keeps what is sought ahead, and where it ends it is found or nowhere. Assumes nothing.
+-- A search along the links: each step keeps what is sought ahead, and where it ends it is found or nowhere. Assumes
+-- nothing.
 use mathlib.Core.Path.{_≡_, refl, sym, _∙_, ap}
 use mathlib.Core.Bool.{Bool, true, false, _&&_, true≢false}
 use mathlib.Core.Logic.{_⊎_, inl, inr}

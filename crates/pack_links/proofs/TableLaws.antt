@@ -1,4 +1,5 @@
--- The links over a table, one entry more: it is linked, it names its first use, or it stores nothing. Assumes nothing.
+-- The links over a table, one entry more: it is linked, it names its first use, or it stores nothing. Assumes
+-- nothing.
 use mathlib.Core.Path.{_≡_, refl, sym, _∙_, ap}
 use mathlib.Core.Bool.{true, false, true≢false}
 use mathlib.Core.Logic.{_⊎_, inl, inr, ⊎-elim}

@@ -1,8 +1,8 @@
--- What the private stages keep in the table while they run. Each of an entry's words id, type and aggregate, which fit 16
--- bits, holds a link above them: the number of an entry and 1, or 0 for none. The link over an id is the first of its
--- bucket; those over the type and the aggregate of an entry go on from it. So each bucket is a tree, in which the search for
--- a pair turns by the bits of its offset and its length in turn: two pairs part after 128 turns at the latest. Nothing that
--- is proved depends on which bucket a pair has. Assumes nothing.
+-- What the private stages keep in the table while they run. Each of an entry's words id, type and aggregate, which
+-- fit 16 bits, holds a link above them: the number of an entry and 1, or 0 for none. The link over an id is the first
+-- of its bucket; those over the type and the aggregate of an entry go on from it. So each bucket is a tree, in which
+-- the search for a pair turns by the bits of its offset and its length in turn: two pairs part after 128 turns at the
+-- latest. Nothing that is proved depends on which bucket a pair has. Assumes nothing.
 use Prim.Native.Nat.{ℕ, _+_, _*_, _-_, _/_, _%_, _^_, _<_, _≤_}
 use mathlib.Core.Path.{_≡_}
 use mathlib.Core.Logic.{_⊎_}
@@ -60,8 +60,8 @@ pub record Sought (t : List ℕ) (i head s x y : ℕ) : Type 0 where
   pub ahead : (j : ℕ) → Alike t j i → Reaches t head j → Leads t s x y j
   pub back : (u : List ℕ) → Grows t u → Leads u s x y i → Leads u head (offsetAt t i) (lengthAt t i) i
 
--- it ends at an entry with this pair, or at a word with no link, where no entry with this pair is linked, and a link leads
--- to i
+-- it ends at an entry with this pair, or at a word with no link, where no entry with this pair is linked, and a link
+-- leads to i
 pub record Ends (t : List ℕ) (i head s : ℕ) : Type 0 where
   pub comes : Comes t s
   pub free : link t s ≡ 0

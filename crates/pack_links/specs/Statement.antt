@@ -1,5 +1,5 @@
--- What `unlink_all` promises, by name. Packing keeps links above 16 bits of each entry's words id, type and aggregate while it
--- runs. Assumes nothing.
+-- What `unlink_all` promises, by name. Packing keeps links above 16 bits of each entry's words id, type and aggregate
+-- while it runs. Assumes nothing.
 use Prim.Native.Nat.{ℕ, _%_}
 use mathlib.Core.Path.{_≡_}
 use mathlib.Core.List.{List}

@@ -1,5 +1,5 @@
-// Links between the entries of a value table that name one pair of offset and length, kept in the spare bits of their words
-// while packing runs: what a search along them ends at, how all are taken out, and their laws.
+// Links between the entries of a value table that name one pair of offset and length, kept in the spare bits of their
+// words while packing runs: what a search along them ends at, how all are taken out, and their laws.
 ghost use Prim.Native.Nat.{_<_};
 ghost use mathlib.Core.Path.{_≡_};
 ghost use lib.ListN.{length};

@@ -1,4 +1,5 @@
--- The room needed is the sum of the distinct pairs' lengths, and a pair's new offset the sum of those before it. Assumes nothing.
+-- The room needed is the sum of the distinct pairs' lengths, and a pair's new offset the sum of those before it.
+-- Assumes nothing.
 use mathlib.Core.Path.{_≡_, refl, sym, _∙_, ap}
 use mathlib.Core.Bool.{Bool, true, false, _&&_, _||_, true≢false}
 use mathlib.Core.Logic.{_⊎_, inl, inr, ⊎-elim}

@@ -1,4 +1,5 @@
--- What rules 1 and 3 of refusal 18 give: words that fit their fields, and pairs that lie in the area. Assumes nothing.
+-- What rules 1 and 3 of refusal 18 give: words that fit their fields, and pairs that lie in the area. Assumes
+-- nothing.
 use mathlib.Core.Path.{_≡_, refl, sym, _∙_}
 use mathlib.Core.Bool.{Bool, true, false, _&&_, _||_, not, true≢false}
 use mathlib.Core.Logic.{⊎-elim}

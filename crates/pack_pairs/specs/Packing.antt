@@ -1,6 +1,6 @@
--- What packing makes of a value table and of a second area, and the order of its refusals. Document 02, A11: "values keep
--- their order and content .. and nothing else is kept. Empty blobs get offset 0. The room needed is the sum of the distinct
--- pairs' lengths. Refusals: 18 (rules 1 and 3), then 17 with that sum, at most 2^64-1." Assumes nothing.
+-- What packing makes of a value table and of a second area, and the order of its refusals. Document 02, A11: "values
+-- keep their order and content .. and nothing else is kept. Empty blobs get offset 0. The room needed is the sum of
+-- the distinct pairs' lengths. Refusals: 18 (rules 1 and 3), then 17 with that sum, at most 2^64-1." Assumes nothing.
 use Prim.Native.Nat.{ℕ, zero, suc, _+_, _/_, _%_}
 use mathlib.Core.List.{List, [], _∷_}
 use lib.ListN.{length, getD}
@@ -12,8 +12,8 @@ use Rattle.wire.specs.Layout.{entryWords, blob}
 use Rattle.wire_check.specs.Writing.{notWhole, badValue}
 use Rattle.pack_pairs.specs.Pairs.{typeAt, offsetAt, lengthAt, pairAt, distinct, sizes, before, bytesOfPairs}
 
--- the fourth word of the entry i afterwards: where a blob's pair goes, behind those first used before it, 0 where it is empty;
--- the bits of any other value
+-- the fourth word of the entry i afterwards: where a blob's pair goes, behind those first used before it, 0 where it
+-- is empty; the bits of any other value
 unfoldable pub placed : List ℕ → ℕ → ℕ
 placed values i =
     pick (blob (typeAt values i)) (pick (0 <? lengthAt values i) (before (pairAt values i) (distinct values)) 0) (offsetAt values i)

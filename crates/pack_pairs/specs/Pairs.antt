@@ -1,6 +1,6 @@
--- The distinct pairs of a value table. Document 02, A11: "each distinct non-empty pair of offset and length is stored once, in
--- order of first use". A pair is two numbers: neither the type nor the bytes play a part. Entries are numbered from 0.
--- Assumes nothing.
+-- The distinct pairs of a value table. Document 02, A11: "each distinct non-empty pair of offset and length is stored
+-- once, in order of first use". A pair is two numbers: neither the type nor the bytes play a part. Entries are
+-- numbered from 0. Assumes nothing.
 use Prim.Native.Nat.{ℕ, zero, suc, _+_, _*_}
 use mathlib.Core.Bool.{Bool, true, false, _&&_, _||_}
 use mathlib.Core.List.{List, [], _∷_, _++_}

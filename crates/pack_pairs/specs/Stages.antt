@@ -1,5 +1,5 @@
--- Packing by first uses, as the code goes about it: nobody has to believe it. proofs/PairLaws.antt and proofs/PackingLaws.antt
--- show that it comes to what Packing says. Assumes nothing.
+-- Packing by first uses, as the code goes about it: nobody has to believe it. proofs/PairLaws.antt and
+-- proofs/PackingLaws.antt show that it comes to what Packing says. Assumes nothing.
 use Prim.Native.Nat.{ℕ, zero, suc, _+_, _/_, _%_, _<_, _≤_}
 use mathlib.Core.Path.{_≡_}
 use mathlib.Core.Bool.{Bool, true, _&&_}

@@ -212,9 +212,6 @@ module _ (area values : List ℕ) (inside : Inside area values) (out₀ : List �
   copy-place = omega (arith, copy-long, room-grows values i (entriesIn values) (so-far .0))
 
   module _ (h : i < entriesIn values) (n : ℕ) (is : n ≡ roomOf values i) where
-    pub cut-asks : 0 < n → offsetAt values i + n ≤ length area
-    cut-asks some = rw is (room-inside area values inside i h (omega arith))
-
     pub copy-next : at + n ≤ length out
     copy-next = omega (arith, copy-long, room-more values i, room-grows values (i + 1) (entriesIn values) (omega arith))
 

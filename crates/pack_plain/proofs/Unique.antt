@@ -1,5 +1,5 @@
--- One result: two results, and two exits of the table and the second area, that meet the statement of `pack_plain` are equal.
--- Assumes nothing.
+-- One result: two results, and two exits of the table and the second area, that meet the statement of `pack_plain`
+-- are equal. Assumes nothing.
 use mathlib.Core.List.{List}
 use Prim.Native.Nat.{ℕ}
 use Rattle.words.specs.Statement.{OneResult}

@@ -1,9 +1,10 @@
-// Packing that looks for each pair among all earlier entries. It is for tables too long for links; no memory holds one.
+// Packing that looks for each pair among all earlier entries. It is for tables too long for links; no memory holds
+// one.
 ghost use mathlib.Core.Path.{_≡_};
 ghost use mathlib.Core.Bool.{_&&_};
 ghost use Prim.Native.Nat.{_+_, _*_, _%_, _^_, _<_, _≤_};
 ghost use lib.ListN.{length};
-ghost use Rattle.words.specs.Buffer.{stretch, over};
+ghost use Rattle.words.specs.Buffer.{over};
 ghost use Rattle.wire_check.specs.Writing.{entriesIn};
 ghost use Rattle.pack_pairs.specs.Pairs.{stored};
 ghost use Rattle.pack_pairs.specs.Packing.{capped};
@@ -11,6 +12,7 @@ ghost use Rattle.pack_pairs.specs.Stages.{same, firstUse, roomOf, room, newOffs
 ghost use Rattle.pack_answer.specs.Statement.{Packs};
 use pack_answer::answer::Packed;
 use pack_answer::entry::add_capped;
+use pack_answer::entry::cut;
 use pack_answer::entry::is_blob;
 use pack_answer::entry::is_stored;
 use wire::error::WireError;
@@ -91,7 +93,8 @@ fn new_word(values: &[u64], i: usize) -> u64
     room_before(values, first_use(values, i))
 }
 
-// Gives each blob its new offset, from the last entry to the first, since a new word asks for earlier ones as they were.
+// Gives each blob its new offset, from the last entry to the first, since a new word asks for earlier ones as they
+// were.
 fn move_all(values: &mut [u64])
     requires { ⌜ (length (now values) % 5 ≡ 0) × (needed (now values) < 2 ^ 64) ⌝ }
     ensures { λ _. ⌜ now (values .exit) ≡ packed (now (values .entry)) ⌝ }
@@ -101,19 +104,6 @@ fn move_all(values: &mut [u64])
         i -= 1;
         values[5 * i + 3] = new_word(values, i);
     }
-}
-
-// n bytes of the area from `start` on.
-fn cut<'a>(area: &'a [u8], start: u64, n: u64) -> &'a [u8]
-    requires { ⌜ (0 < n → start + n ≤ length (now area)) ⌝ }
-    ensures { λ r. ⌜ now r ≡ stretch (now (area .entry)) start n ⌝ }
-{
-    if n == 0 {
-        return &area[..0];
-    }
-    let from = start as usize;
-    let end = from + n as usize;
-    &area[from..end]
 }
 
 // Copies each first use's bytes behind those before it.

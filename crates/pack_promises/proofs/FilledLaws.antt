@@ -1,4 +1,5 @@
--- What packing answers, both ways: what an answer says of the tables, and the answer that tables have. Assumes nothing.
+-- What packing answers, both ways: what an answer says of the tables, and the answer that tables have. Assumes
+-- nothing.
 use mathlib.Core.Path.{_≡_, refl, sym, _∙_, ap}
 use mathlib.Core.Bool.{Bool, true, false, not}
 use mathlib.Core.List.{List, [], _∷_}

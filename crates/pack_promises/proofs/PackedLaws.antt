@@ -1,5 +1,5 @@
--- The packed table over an area that begins with the packed bytes, beside the table as it was: the same entries, offsets apart,
--- and none of them bad. Assumes nothing.
+-- The packed table over an area that begins with the packed bytes, beside the table as it was: the same entries,
+-- offsets apart, and none of them bad. Assumes nothing.
 use mathlib.Core.Path.{_≡_, sym, _∙_, ap}
 use mathlib.Core.Bool.{true, false, not}
 use mathlib.Core.Logic.{_⊎_, ⊎-elim}

@@ -1,5 +1,5 @@
--- Two value tables, each over an area, whose entries have the same words but for where their blobs lie, and blobs with the same
--- bytes: the same content, and the same bytes, sizes and limits in writing. Assumes nothing.
+-- Two value tables, each over an area, whose entries have the same words but for where their blobs lie, and blobs
+-- with the same bytes: the same content, and the same bytes, sizes and limits in writing. Assumes nothing.
 use mathlib.Core.Path.{_≡_, refl, _∙_, ap}
 use mathlib.Core.Bool.{true, false}
 use mathlib.Core.Logic.{⊎-elim}

@@ -1,5 +1,5 @@
--- What document 02's A11 asks of packing, over `Packs`, the statement of `pack`, and `Encodes`, that of `encode_rowset`.
--- Assumes nothing.
+-- What document 02's A11 asks of packing, over `Packs`, the statement of `pack`, and `Encodes`, that of
+-- `encode_rowset`. Assumes nothing.
 use Prim.Native.Nat.{ℕ, _*_, _/_, _%_, _<_, _≤_}
 use mathlib.Core.Bool.{true, false}
 use mathlib.Core.List.{List, [], _∷_}
@@ -34,16 +34,16 @@ PackKeepsContent =
     → (second : List ℕ) → Begins n out′ second
     → (rows : List ℕ) → rowsIn second rows values′ ≡ rowsIn area rows values
 
--- Of the table the offsets of blobs change and nothing else: it is as long, and each word that is not the fourth of a blob's
--- entry stays.
+-- Of the table the offsets of blobs change and nothing else: it is as long, and each word that is not the fourth of a
+-- blob's entry stays.
 abbrev pub PackMovesOffsetsAlone : Type 0
 PackMovesOffsetsAlone =
     (area values out : List ℕ) (r : Packed) (values′ out′ : List ℕ) → Packs area values out r values′ out′
     → (length values′ ≡ length values)
     × ((k : ℕ) → (k % entryWords ≡ 3 → blob (typeAt values (k / entryWords)) ≡ true → ⊥) → getD values′ k 0 ≡ getD values k 0)
 
--- "Writing the rowset before and after gives the same bytes": with any row table and any output, the same answer, a refusal
--- too, and the same output afterwards.
+-- "Writing the rowset before and after gives the same bytes": with any row table and any output, the same answer, a
+-- refusal too, and the same output afterwards.
 abbrev pub PackWritesTheSame : Type 0
 PackWritesTheSame =
     (area values out : List ℕ) (n : ℕ) (values′ out′ : List ℕ) → Packs area values out (Filled n) values′ out′
@@ -52,8 +52,8 @@ PackWritesTheSame =
     → Encodes area rows values output w after → Encodes second rows values′ output w′ after′
     → (w′ ≡ w) × (after′ ≡ after)
 
--- "Packing twice changes no more than packing once": the same table, and the same bytes in front of a third area that has
--- the room.
+-- "Packing twice changes no more than packing once": the same table, and the same bytes in front of a third area that
+-- has the room.
 abbrev pub PackTwice : Type 0
 PackTwice =
     (area values out : List ℕ) (n : ℕ) (values′ out′ : List ℕ) → Packs area values out (Filled n) values′ out′
@@ -66,8 +66,8 @@ abbrev pub Once : List Pair → Type 0
 Once [] = Unit {0}
 Once (p ∷ ps) = (has p ps ≡ false) × Once ps
 
--- "Each distinct non-empty pair of offset and length is stored once": the list has a pair exactly where an entry stores it, and
--- has it once.
+-- "Each distinct non-empty pair of offset and length is stored once": the list has a pair exactly where an entry
+-- stores it, and has it once.
 abbrev pub PackPairs : Type 0
 PackPairs =
     (values : List ℕ)
@@ -75,8 +75,9 @@ PackPairs =
     × ((p : Pair) → ((i : ℕ) → i < entriesIn values → stored values i ≡ true → pairAt values i ≡ p → ⊥) → has p (distinct values) ≡ false)
     × Once (distinct values)
 
--- "The room needed is the sum of the distinct pairs' lengths", "and nothing else is kept": so many bytes are filled, they are
--- those of the pairs, and the rest of the area is left; 17 says that sum, at most 2^64-1, exactly where it is more than there is.
+-- "The room needed is the sum of the distinct pairs' lengths", "and nothing else is kept": so many bytes are filled,
+-- they are those of the pairs, and the rest of the area is left; 17 says that sum, at most 2^64-1, exactly where it
+-- is more than there is.
 abbrev pub PackRoom : Type 0
 PackRoom =
     (area values out : List ℕ) (r : Packed) (values′ out′ : List ℕ) → Packs area values out r values′ out′
@@ -104,8 +105,8 @@ PackRefusalKeeps =
     (area values out : List ℕ) (refusal : WireError) (values′ out′ : List ℕ)
     → Packs area values out (Refused refusal) values′ out′ → (values′ ≡ values) × (out′ ≡ out)
 
--- An example, computed: "old Dorsch new Kabeljau" under the values String (4, 6), Any (15, 8), Int64 99, Composite (4, 6),
--- String (5, 5), String (23, 0).
+-- An example, computed: "old Dorsch new Kabeljau" under the values String (4, 6), Any (15, 8), Int64 99, Composite
+-- (4, 6), String (5, 5), String (23, 0).
 
 abbrev pub exampleArea : List ℕ
 exampleArea = text "old Dorsch new Kabeljau"

@@ -6,7 +6,7 @@ use borrow.Author.Needs.{needs}
 use Rattle.wire_check.specs.Writing.{entriesIn}
 use Rattle.pack_links.specs.Statement.{plain}
 use Rattle.pack_links.proofs.MoveLaws.{plain-long}
-use Rattle.pack_links.proofs.CopyLaws.{Copying, copy-begin, copy-end, copy-long, copy-place, copy-inside, copy-asks, next-above, cut-asks, copy-go}
+use Rattle.pack_links.proofs.CopyLaws.{Copying, copy-begin, copy-end, copy-long, copy-place, copy-inside, copy-asks, next-above, copy-go}
 use Rattle.pack.proofs.copy_all.Statement.{statement}
 use Rattle.pack.proofs.copy_all.Tie as tie
 
@@ -38,7 +38,7 @@ sub-cut : tie.Need-sub-cut Inv-loop μ-loop
 sub-cut c = next-above _ _ (c .before .before .before .before .before .before .before .pre .1 .0) _ (c .before .before .before .before .before .before .before .pre .0) _ (c .before .before .before .before .before .before .before .pre .1 .1) _ _ _ (c .before .before .before .loop .inv .1) (rw (c .before .before .before .loop .inv .0) at (c .before .before .loop-test .taken)) _ (c .before .next-at .ensures)
 
 cut-requires : tie.Need-cut-requires Inv-loop μ-loop
-cut-requires c κs = cut-asks _ _ (c .before .before .before .before .before .before .before .pre .1 .0) _ (c .before .before .before .before .before .before .before .pre .0) _ (c .before .before .before .before .before .before .before .pre .1 .1) _ _ _ (c .before .before .before .loop .inv .1) (rw (c .before .before .before .loop .inv .0) at (c .before .before .loop-test .taken)) _ (c .before .next-at .ensures)
+cut-requires c κs = search needs
 
 sub-write-bytes : tie.Need-sub-write-bytes Inv-loop μ-loop
 sub-write-bytes c = copy-place _ _ (c .before .before .before .before .before .before .before .before .pre .1 .0) _ (c .before .before .before .before .before .before .before .before .pre .0) _ (c .before .before .before .before .before .before .before .before .pre .1 .1) _ _ _ (c .before .before .before .before .loop .inv .1)

@@ -4,7 +4,7 @@ use Prim.Native.Nat.{_-_}
 use native.Mathlib.Omega.{arith}
 use borrow.Author.Needs.{needs}
 use Rattle.wire_check.specs.Writing.{entriesIn}
-use Rattle.pack_plain.proofs.PlainLaws.{Copying, copy-begin, copy-end, copy-long, copy-place, cut-asks, copy-next, copy-go}
+use Rattle.pack_plain.proofs.PlainLaws.{Copying, copy-begin, copy-end, copy-long, copy-place, copy-next, copy-go}
 use Rattle.pack_plain.proofs.copy_all.Statement.{statement}
 use Rattle.pack_plain.proofs.copy_all.Tie as tie
 
@@ -33,7 +33,7 @@ shared-slice-read-cut : tie.Need-shared-slice-read-cut Inv-loop μ-loop
 shared-slice-read-cut c = omega arith
 
 cut-requires : tie.Need-cut-requires Inv-loop μ-loop
-cut-requires c κs = cut-asks _ _ (c .before .before .before .before .before .before .before .pre .0) _ (c .before .before .before .before .before .before .before .pre .1) _ _ _ (c .before .before .before .loop .inv .1) (rw (c .before .before .before .loop .inv .0) at (c .before .before .loop-test .taken)) _ (c .before .room-of .ensures)
+cut-requires c κs = search needs
 
 sub-write-bytes : tie.Need-sub-write-bytes Inv-loop μ-loop
 sub-write-bytes c = copy-place _ _ (c .before .before .before .before .before .before .before .before .pre .0) _ (c .before .before .before .before .before .before .before .before .pre .1) _ _ _ (c .before .before .before .before .loop .inv .1)
