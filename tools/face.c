@@ -29,6 +29,9 @@ int main(void) {
                                6,    0x0a, 1,    'a',  0x12, 1,    '#',  0x22, 4,   0x08, 0,   0x12, 0};
     uint8_t written[sizeof whole + 1];
     uint64_t errors[2 * CABLEFINCH_ERROR_WORDS] = {0}, attribute[CABLEFINCH_ATTRIBUTE_WORDS] = {0};
+    const uint8_t fish[3] = {'c', 'o', 'd'};
+    uint64_t term[CABLEFINCH_VALUE_WORDS] = {7, CABLEFINCH_STRING, 0, 1, 2};
+    uint8_t packed[2] = {0};
 
     expect("version", cablefinch_face_5() == CABLEFINCH_FACE);
     expect("checksum", cablefinch_checksum(NULL, 0) == 0);
@@ -83,6 +86,14 @@ int main(void) {
     cablefinch_read_value(&o, NULL, 0, 0);
     IS(read_value, CABLEFINCH_REFUSED, CABLEFINCH_TRUNCATED);
     expect("is_plain", !cablefinch_is_plain(NULL, 0));
+    cablefinch_pack(&o, NULL, 0, NULL, 0, NULL, 0);
+    IS(pack, CABLEFINCH_ACCEPTED, 0);
+    cablefinch_pack(&o, fish, sizeof fish, term, CABLEFINCH_VALUE_WORDS, NULL, 0);
+    IS(pack, CABLEFINCH_REFUSED, CABLEFINCH_NO_ROOM);
+    expect("pack without room", o.values[0] == CABLEFINCH_OUTPUT && o.values[1] == 2 && term[3] == 1);
+    cablefinch_pack(&o, fish, sizeof fish, term, CABLEFINCH_VALUE_WORDS, packed, sizeof packed);
+    IS(pack, CABLEFINCH_ACCEPTED, 0);
+    expect("pack of one", o.count == 2 && term[3] == 0 && packed[0] == 'o' && packed[1] == 'd');
     cablefinch_yson_check(&o, NULL, 0);
     IS(yson_check, CABLEFINCH_REFUSED, CABLEFINCH_BAD_YSON);
     cablefinch_yson_items(&o, NULL, 0, NULL, 0);

@@ -902,6 +902,143 @@ fn messages(table: &mut Table) {
             ),
             wrapped: f64::NAN,
         });
+
+/// The words of a value in a table, and the bytes of each string that is packed.
+const VALUE: usize = 5;
+const STRING: usize = 20;
+
+/// A table of strings, of which each lies at the place of the given number, and its area.
+fn strings(count: usize, place: impl Fn(usize) -> usize) -> (Vec<u8>, Vec<u64>) {
+    let values = (0..count)
+        .flat_map(|i| [7, 16, 0, (STRING * place(i)) as u64, STRING as u64])
+        .collect();
+    (noise(STRING * count), values)
+}
+
+/// A packing of a table and its area, ready to be timed.
+struct Packing {
+    area: Vec<u8>,
+    values: Vec<u64>,
+    out: Vec<u8>,
+}
+
+impl Packing {
+    fn of((area, values): (Vec<u8>, Vec<u64>)) -> Self {
+        let out = vec![0u8; area.len()];
+        Self { area, values, out }
+    }
+
+    /// Nanoseconds of one call over a fresh copy of the table.
+    fn once(&mut self) -> f64 {
+        let mut values = self.values.clone();
+        let start = clock();
+        let outcome = black_box(face::pack(&self.area, &mut values, &mut self.out));
+        let taken = (clock() - start) as f64;
+        assert!(outcome.kind == face::ACCEPTED);
+        taken
+    }
+}
+
+/// The least of as many rounds of two calls, taken in turn. Memory that others use meanwhile shows in
+/// large tables, and the least time has least of it.
+fn least_of_two(mut first: impl FnMut() -> f64, mut second: impl FnMut() -> f64) -> (f64, f64) {
+    (0..2 * ROUNDS)
+        .map(|_| (first(), second()))
+        .fold((f64::INFINITY, f64::INFINITY), |(a, b), (c, d)| {
+            (a.min(c), b.min(d))
+        })
+}
+
+/// A table whose pairs all have bucket 0, as `bucket_word` of crates/pack has it: what a peer could send
+/// that knows it. The area is zeros, of which few are ever touched.
+fn one_bucket(count: usize) -> (Vec<u8>, Vec<u64>) {
+    let area = vec![0u8; 1 << 31];
+    let mut values = Vec::new();
+    'filled: for block in 0..1u64 << 15 {
+        let start = block * 2_654_435_769 / 1024;
+        for sixteen in 4096 * block..4096 * (block + 1) {
+            // A length that makes up for the rest, where there is one below 32.
+            let length = count as u64 - (start + sixteen) % count as u64;
+            if length < 32 {
+                for offset in 16 * sixteen..16 * (sixteen + 1) {
+                    if values.len() == 5 * count {
+                        break 'filled;
+                    }
+                    values.extend([7, 16, 0, offset, length]);
+                }
+            }
+        }
+    }
+    assert!(values.len() == 5 * count);
+    (area, values)
+}
+
+/// Packing, which the Rust has not. In its place stands what `encode_rowset` takes for the same tables in
+/// rows of five, and then 2.5 times what packing half as many values takes.
+fn packing(table: &mut Table) {
+    const COUNT: usize = 500_000;
+    let rows = vec![5; COUNT / 5];
+    let places: [(&str, fn(usize) -> usize); 3] = [
+        ("pack 500,000 values, pairs distinct, beside writing", |i| i),
+        ("pack 500,000 values, pairs equal, beside writing", |_| 0),
+        ("pack 500,000 values, half repeated, beside writing", |i| {
+            i % (COUNT / 2)
+        }),
+    ];
+    for (name, place) in places {
+        table.line(name, STRING * COUNT, Some(0.1), || {
+            let (area, values) = strings(COUNT, place);
+            let mut out = vec![0u8; 64 + COUNT * (16 + STRING)];
+            let mut packing = Packing::of((area.clone(), values.clone()));
+            let encode = || {
+                let start = clock();
+                let outcome = black_box(face::encode_rowset(&area, &rows, &values, &mut out));
+                let taken = (clock() - start) as f64;
+                assert!(outcome.kind == face::ACCEPTED);
+                taken
+            };
+            let (rust, port) = least_of_two(encode, || packing.once());
+            Times {
+                rust,
+                port,
+                wrapped: f64::NAN,
+            }
+        });
+    }
+    for (name, hostile) in [
+        ("pack 100,000 values, pairs distinct", false),
+        ("pack 100,000 values, pairs of one bucket", true),
+    ] {
+        table.line(name, 0, None, || {
+            let mut packing = Packing::of(match hostile {
+                true => one_bucket(100_000),
+                false => strings(100_000, |i| i),
+            });
+            let (port, _) = least_of_two(|| packing.once(), || 0.0);
+            Times {
+                rust: f64::NAN,
+                port,
+                wrapped: f64::NAN,
+            }
+        });
+    }
+    for count in [125_000, 250_000, 500_000, 1_000_000] {
+        for (kind, parts) in [("pairs distinct", 1), ("half repeated", 2)] {
+            let name = format!(
+                "pack {} values, {kind}, beside 2.5 times {count}",
+                2 * count
+            );
+            table.line(&name, 2 * STRING * count, Some(1.0), || {
+                let of = |count: usize| Packing::of(strings(count, |i| i % (count / parts)));
+                let (mut half, mut whole) = (of(count), of(2 * count));
+                let (rust, port) = least_of_two(|| half.once(), || whole.once());
+                Times {
+                    rust: 2.5 * rust,
+                    port,
+                    wrapped: f64::NAN,
+                }
+            });
+        }
     }
 }
 
@@ -915,6 +1052,7 @@ fn main() {
     checksums(&mut table);
     packets(&mut table);
     let rowset_rate = rowsets(&mut table);
+    packing(&mut table);
     guids(&mut table);
     notes(&mut table, rowset_rate);
     messages(&mut table);

@@ -3,6 +3,7 @@
 
 use crate::edges::{ID, NO_ID, header, rowset, word};
 use crate::errors;
+use crate::pack;
 use crate::packets::{SIGNATURE, Wire, id_of, part_table};
 use crate::rowsets::NULL;
 use crate::sums;
@@ -23,6 +24,7 @@ pub fn list() -> Vec<String> {
     caps(&mut lines);
     large_reads(&mut lines);
     lengths(&mut lines);
+    pack::corners(&mut lines);
     yson::corners(&mut lines);
     errors::corners(&mut lines);
     lines

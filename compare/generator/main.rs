@@ -7,6 +7,7 @@ mod corners;
 mod damaged;
 mod edges;
 mod errors;
+mod pack;
 mod packets;
 mod random;
 mod rowsets;
@@ -27,7 +28,7 @@ use text::{hex, hex_or_dash};
 type Make = fn(&mut Random) -> String;
 
 /// Each kind with its share of a run.
-const KINDS: [(&str, u64, Make); 30] = [
+const KINDS: [(&str, u64, Make); 31] = [
     ("crc", 30, crc),
     ("checksum", 20, checksum),
     ("fold", 10, sums::fold),
@@ -53,6 +54,7 @@ const KINDS: [(&str, u64, Make); 30] = [
     ("rowset-size", 30, rowsets::size),
     ("value", 60, rowsets::value),
     ("plain", 50, rowsets::plain),
+    ("pack", 60, pack::case),
     ("yson", 60, yson::case),
     ("error-read", 60, errors::read),
     ("error-write", 40, errors::write),

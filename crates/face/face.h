@@ -237,6 +237,16 @@ cablefinch_outcome *cablefinch_read_value(cablefinch_outcome *o, const uint8_t *
  * are the same bytes. */
 bool cablefinch_is_plain(const uint8_t *input, size_t n);
 
+/* Packs the area behind a value table: the bytes that its values name, each distinct pair of offset and length once, in
+ * the order of first use and without padding, go to the front of `out`, and the table's offsets are changed to where
+ * they lie there; empty values get offset 0. count: the bytes filled, which no pair shares with another, though equal
+ * bytes at two places stay two. With any row table cablefinch_encode_rowset writes from `out` and the changed table what
+ * it wrote from the area and the table as it was. Refused with CABLEFINCH_BAD_TABLE (rules 1 and 3), then
+ * CABLEFINCH_NO_ROOM with the bytes needed (2^64-1 for more); then neither the table nor `out` is changed. `area`,
+ * `values` and `out` must not overlap. */
+cablefinch_outcome *cablefinch_pack(cablefinch_outcome *o, const uint8_t *area, size_t n, uint64_t *values,
+        size_t value_words, uint8_t *out, size_t room);
+
 /* Any and Composite values, which are YSON in its binary form: one node and nothing behind it, with at most
  * CABLEFINCH_MAX_OPEN_BRACKETS of `[`, `{` and `<` open at once. Any other input is refused with CABLEFINCH_BAD_YSON or
  * CABLEFINCH_TOO_DEEP, whichever is met first, which tells where. An item of an outer map has CABLEFINCH_ITEM_WORDS

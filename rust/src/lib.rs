@@ -5,6 +5,7 @@
 //!
 //! - [`packet`]: one packet off the front of a buffer, its parts lent from that buffer.
 //! - [`wire`]: the rows of a part, a null row never folded away.
+//! - [`pack()`](pack::pack): the bytes behind an editor's value table, packed.
 //! - [`yson`]: whether an Any or a Composite value is well formed, and the items of its outer map.
 //! - [`error`]: the error message of a failed call, which prints as a person reads it.
 //! - [`guid`] and [`crc64`]: the ids and the checksums of both.
@@ -47,6 +48,7 @@ compile_error!("the static library is for processors with 64-bit addresses");
 pub mod crc64;
 pub mod error;
 pub mod guid;
+pub mod pack;
 pub mod packet;
 pub mod shown;
 #[allow(unsafe_code)]

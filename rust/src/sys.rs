@@ -54,6 +54,7 @@ mod raw {
         pub(super) fn cablefinch_encode_rowset(o: *mut Outcome, area: *const u8, n: usize, rows: *const u64, row_words: usize, values: *const u64, value_words: usize, out: *mut u8, room: usize) -> *mut Outcome;
         pub(super) fn cablefinch_rowset_size(o: *mut Outcome, area: *const u8, n: usize, rows: *const u64, row_words: usize, values: *const u64, value_words: usize) -> *mut Outcome;
         pub(super) fn cablefinch_is_plain(input: *const u8, n: usize) -> bool;
+        pub(super) fn cablefinch_pack(o: *mut Outcome, area: *const u8, n: usize, values: *mut u64, value_words: usize, out: *mut u8, room: usize) -> *mut Outcome;
         pub(super) fn cablefinch_yson_check(o: *mut Outcome, input: *const u8, n: usize) -> *mut Outcome;
         pub(super) fn cablefinch_yson_items(o: *mut Outcome, input: *const u8, n: usize, table: *mut u64, words: usize) -> *mut Outcome;
         pub(super) fn cablefinch_error_read(o: *mut Outcome, input: *const u8, n: usize, errors: *mut u64, error_words: usize, attributes: *mut u64, attribute_words: usize) -> *mut Outcome;
@@ -202,6 +203,10 @@ pub(crate) fn rowset_size(area: &[u8], rows: &[u64], values: &[u64]) -> Outcome 
 pub(crate) fn is_plain(input: &[u8]) -> bool {
     // SAFETY: a slice's pointer and length, only read; the result is 0 or 1.
     unsafe { raw::cablefinch_is_plain(input.as_ptr(), input.len()) }
+}
+
+pub(crate) fn pack(area: &[u8], values: &mut [u64], out: &mut [u8]) -> Outcome {
+    ask!(cablefinch_pack [area] [mut values] [mut out])
 }
 
 pub(crate) fn yson_check(input: &[u8]) -> Outcome {

@@ -141,6 +141,9 @@ fn answer(line: &[u8]) -> Answer {
             "ok {}",
             u8::from(face::is_plain(&read_bytes(bytes)?))
         )),
+        (b"pack", [room, area, values]) => {
+            pack(number(room)?, &read_bytes(area)?, &read_words(values)?)
+        }
         (b"yson", [room, bytes]) => yson(number(room)?, &read_bytes(bytes)?),
         (b"error-read", [errors, attributes, bytes]) => {
             error_read(number(errors)?, number(attributes)?, &read_bytes(bytes)?)
@@ -503,6 +506,26 @@ fn rowset_write(room: u64, area: &[u8], rows: &[u64], values: &[u64]) -> Answer 
     let mut out = Placed::filled(room.min(most) as usize);
     let outcome = face::encode_rowset(area, rows, values, &mut out);
     Ok(written(&outcome, &out))
+}
+
+/// The table is lent as it is given; a refusal must leave it so.
+fn pack(room: u64, area: &[u8], values: &[u64]) -> Answer {
+    let lengths = values.iter().skip(4).step_by(VALUE as usize).copied();
+    let mut out = Placed::filled(room.min(most(area, 8, lengths)) as usize);
+    let mut table = values.to_vec();
+    let outcome = face::pack(area, &mut table, &mut out);
+    if outcome.kind != face::ACCEPTED {
+        let kept = table == values && bytes_kept(&out);
+        return Ok(mark(or_refusal(&outcome, String::new), kept));
+    }
+    let (bytes, rest) = out.split_at(outcome.count as usize);
+    let text = format!(
+        "ok {} {} {}",
+        outcome.count,
+        words(&table),
+        hex_or_dash(bytes)
+    );
+    Ok(mark(text, bytes_kept(rest)))
 }
 
 fn value(at: u64, input: &[u8]) -> Answer {

@@ -123,6 +123,12 @@ fn answer(line: &[u8]) -> Outcome {
             number(length)?;
             Err(Without::Skip)
         }
+        (b"pack", [room, area, values]) => {
+            number(room)?;
+            read_bytes(area)?;
+            read_words(values)?;
+            Err(Without::Skip)
+        }
         (b"yson", [room, bytes]) => {
             number(room)?;
             read_bytes(bytes)?;

@@ -2,19 +2,27 @@
 // specs/Polynomial.antt. The register is held byte-swapped, as the engines work, and `finish` swaps it back.
 ghost use Rattle.checksum.specs.Statement.{UpdatedIs, NewIs, UpdateIs, ChainIs, AppendIs, FinishIs};
 ghost use Rattle.crc64.specs.Statement.{ChecksumIs};
+use crc64_long::LONG_FROM;
 
 // The register, held byte-swapped, after the bytes.
 pub fn updated(register: u64, bytes: &[u8]) -> u64
     ensures { λ r. ⌜ UpdatedIs register (now (bytes .entry)) r ⌝ }
 {
-    crc64_fast::fold_held(register, bytes)
+    if bytes.len() < LONG_FROM {
+        return crc64_fast::fold_held(register, bytes);
+    }
+    crc64_long::fold_long(register, bytes)
 }
 
-// The checksum of a byte string.
+// The checksum of a byte string. It asks for the length by itself: a function that is called from one place alone is
+// compiled into that place, and the window of long strings would be laid out for short ones too.
 pub fn checksum(bytes: &[u8]) -> u64
     ensures { λ r. ⌜ ChecksumIs (now (bytes .entry)) r ⌝ }
 {
-    crc64::swap_bytes(updated(0, bytes))
+    if bytes.len() < LONG_FROM {
+        return crc64::swap_bytes(crc64_fast::fold_held(0, bytes));
+    }
+    crc64::swap_bytes(crc64_long::fold_long(0, bytes))
 }
 
 // A checksum of bytes that come in several stretches.

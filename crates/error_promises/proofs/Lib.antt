@@ -1,2 +1,13 @@
 pub mod Form
 pub mod Errors
+pub mod WrittenField
+pub mod Seen
+pub mod WrittenEntries
+pub mod WrittenErrors
+pub mod Round
+pub mod Sorted
+pub mod Dictionaries
+pub mod Unknown
+pub mod Local
+pub mod Put
+pub mod Examples

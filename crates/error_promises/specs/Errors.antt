@@ -1,9 +1,10 @@
--- The promises of reading and writing errors: what is accepted, that a refusal changes nothing, which field counts.
--- Assumes nothing.
+-- The promises of reading and writing errors: what is accepted and what is written, that a refusal changes nothing,
+-- which field counts. Assumes nothing.
 use Prim.Native.Nat.{ℕ, _≤_, _/_, _<_}
 use mathlib.Core.Path.{_≡_}
 use mathlib.Core.List.{List, _∷_, _++_, List·Memᴰ}
 use lib.ListN.{length}
+use Rattle.words.specs.Decide.{Silent}
 use Rattle.field.specs.Field.{numberAt}
 use Rattle.error_tree.specs.Message.{errorFields, latest}
 use Rattle.error_tree.specs.Tree.{Parts, tree, errorCount, attributeCount, partsWith}
@@ -12,7 +13,10 @@ use Rattle.error_tree.specs.declared.refusal.ErrorRefusal.{ErrorRefusal}
 use Rattle.error_read.specs.Statement.{Decodes}
 use Rattle.error_read.specs.declared.decode.Decoded.{Decoded}
 use Rattle.error_read.specs.declared.decode.Decoded.the-variants.{Read, Refused}
+use Rattle.error_table.specs.Table.{tableOrder}
+use Rattle.error_write.specs.Writing.{needed}
 use Rattle.error_write.specs.Statement.{Encodes}
+use Rattle.error_write.specs.declared.write.Encoded.{Encoded}
 use Rattle.error_write.specs.declared.write.Encoded.the-variants as W
 use Rattle.error_promises.specs.Form.{WellFormed}
 
@@ -27,6 +31,16 @@ ErrorAcceptsExactly =
     (s errors attributes errors′ attributes′ : List ℕ) (r : Decoded) → Decodes s errors attributes r errors′ attributes′
     → (WellFormed s → Roomy s errors attributes → r ≡ Read (errorCount (tree s)) (attributeCount (tree s)))
     × ((n m : ℕ) → r ≡ Read n m → WellFormed s × Roomy s errors attributes × (n ≡ errorCount (tree s)) × (m ≡ attributeCount (tree s)))
+
+-- `encode_error` writes exactly where no rule of 18 is broken and the output has the room, and tells how many bytes
+abbrev pub ErrorWritesExactly : Type 0
+ErrorWritesExactly =
+    (area errors attributes out out′ : List ℕ) (r : Encoded) → Encodes area errors attributes out r out′
+    → (Silent (tableOrder area errors attributes) → needed area errors attributes ≤ length out
+    → r ≡ W.Written (needed area errors attributes))
+    × ((n : ℕ) → r ≡ W.Written n
+    → Silent (tableOrder area errors attributes) × (needed area errors attributes ≤ length out)
+    × (n ≡ needed area errors attributes))
 
 -- a refusal changes neither table
 abbrev pub ErrorTablesKeep : Type 0

@@ -22,7 +22,7 @@ use Rattle.yson.specs.Reading.{wordsOf, listing}
 use Rattle.yson.proofs.Unique.{one-reading}
 use Rattle.words.specs.Paper.{outcome}
 use Rattle.words.specs.declared.outcome.Outcome.{Outcome}
-use Rattle.face.specs.Statement.{WritesId, Prints, Parses, GivesParts, GivesHalves, TellsNull, Decodes, Encodes, Measures, Validates, LendsPart, Contains, DecodesRowset, EncodesRowset, MeasuresRowset, ReadsValue, ChecksYson, ListsYson, DecodesError, MeasuresError, EncodesError}
+use Rattle.face.specs.Statement.{WritesId, Prints, Parses, GivesParts, GivesHalves, TellsNull, Decodes, Encodes, Measures, Validates, LendsPart, Contains, DecodesRowset, EncodesRowset, MeasuresRowset, ReadsValue, PacksArea, ChecksYson, ListsYson, DecodesError, MeasuresError, EncodesError}
 
 -- so of two things, and of three
 equal-to-two : {A B : Type 0} (a : A) (b : B) → OneResult (λ (x : A × B). (x .0 ≡ a) × (x .1 ≡ b))
@@ -109,6 +109,9 @@ cablefinch-read-value-unique s at = equal-to-one _
 
 pub cablefinch-is-plain-unique : (s : List ℕ) → OneResult (TellsPlain s)
 cablefinch-is-plain-unique s = equal-to-one _
+
+pub cablefinch-pack-unique : (area values out : List ℕ) → OneResult (λ (x : Outcome × List ℕ × List ℕ). PacksArea area values out (x .0) (x .1) (x .2))
+cablefinch-pack-unique area values out = equal-to-three _ _ _
 
 pub cablefinch-yson-check-unique : (s : List ℕ) → OneResult (ChecksYson s)
 cablefinch-yson-check-unique s r r′ (x, tells) (x′, tells′) = tells ∙ ap outcome (one-reading s x x′ .checked) ∙ sym tells′

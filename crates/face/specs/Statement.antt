@@ -30,6 +30,7 @@ use Rattle.wire.specs.Layout.{countAt, rowWords, valueWords, rowsetBytes}
 use Rattle.wire_value.specs.ValueOrder.{valueReading}
 use Rattle.wire_read.specs.Reading as rowset
 use Rattle.wire_check.specs.Writing as rowsetWriting
+use Rattle.pack_pairs.specs.Packing.{packing, packedTable, packedArea}
 use Rattle.yson.specs.Reading as yson
 use Rattle.error_tree.specs.Tree.{tree, errorWords, attributeWords}
 use Rattle.error_tree.specs.Reading as error
@@ -120,6 +121,12 @@ MeasuresRowset area rows values r = Tells (rowsetWriting.measuring area rows val
 
 abbrev pub ReadsValue : List ℕ → ℕ → Outcome → Type 0
 ReadsValue s at r = Tells (valueReading s at) r
+
+-- the bytes behind a value table packed into a second area
+abbrev pub PacksArea : List ℕ → List ℕ → List ℕ → Outcome → List ℕ → List ℕ → Type 0
+PacksArea area values out r values′ out′ =
+    let answer = packing area values (length out) in
+    Tells answer r × Holds answer (packedTable values) values values′ × Holds answer (packedArea area values) out out′
 
 -- YSON: the answer of the input's reading; four words are room for an item
 

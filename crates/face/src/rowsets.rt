@@ -1,6 +1,7 @@
-// Rowsets: read into lent row and value tables, written from them; one value by itself; the plain form.
+// Rowsets: read into lent row and value tables, written from them; one value by itself; the plain form; the bytes behind a
+// value table packed.
 ghost use Rattle.wire_read.specs.Statement.{TellsPlain};
-ghost use Rattle.face.specs.Statement.{DecodesRowset, EncodesRowset, MeasuresRowset, ReadsValue};
+ghost use Rattle.face.specs.Statement.{DecodesRowset, EncodesRowset, MeasuresRowset, ReadsValue, PacksArea};
 use words::outcome::Outcome;
 
 #[no_mangle]
@@ -45,4 +46,11 @@ pub extern "C" fn cablefinch_is_plain(input: &[u8]) -> bool
     ensures { λ r. ⌜ TellsPlain (now (input .entry)) r ⌝ }
 {
     wire_read::plain::is_plain(input)
+}
+
+#[no_mangle]
+pub extern "C" fn cablefinch_pack(area: &[u8], values: &mut [u64], out: &mut [u8]) -> Outcome
+    ensures { λ r. ⌜ PacksArea (now (area .entry)) (now (values .entry)) (now (out .entry)) r (now (values .exit)) (now (out .exit)) ⌝ }
+{
+    pack_answer::answer::outcome(pack::pack(area, values, out))
 }

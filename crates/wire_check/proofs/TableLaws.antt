@@ -172,6 +172,13 @@ module _ (size : ℕ) (values : List ℕ) where
       let e : i ≡ entriesIn values = omega arith in
       e ∙ sym (first-end _ (entriesIn values)) ∙ rw e at seeks
 
+-- where the search finds none, none is bad
+pub none-bad : (area values : List ℕ) → entriesIn values ≤ firstBad (length area) values → Good area values
+unfolding firstBad
+none-bad area values none k aligned within =
+    let at : entryWords * (k / entryWords) ≡ k = omega arith in
+    ap (badEntry (length area) values) (sym at) ∙ first-none (λ (j : ℕ). badEntry (length area) values (entryWords * j)) 0 (entriesIn values) (k / entryWords) (omega arith) (omega arith)
+
 -- The order
 
 module _ (area rows values : List ℕ) where
@@ -194,16 +201,10 @@ module _ (area rows values : List ℕ) where
         unfolding tableOrder
         many-rows h rest = rw (eq-eqb (length values % 5) 0 whole, sums, ← is, le-ltb first (length values / 5) none, lt-ltb maxRows (length rows) h)
 
-        none-bad : Good area values
-        unfolding firstBad
-        none-bad k aligned within =
-            let at : entryWords * (k / entryWords) ≡ k = omega arith in
-            ap (badEntry (length area) values) (sym at) ∙ first-none (λ (j : ℕ). badEntry (length area) values (entryWords * j)) 0 (entriesIn values) (k / entryWords) (omega arith) (omega arith)
-
         pub tables-pass : length rows ≤ maxRows → ChecksTables area rows values Passed
         unfolding tableOrder
         tables-pass h =
             let all : total rows ≡ length values / 5 = eqb-true (total rows) (length values / 5) sums in (
-              record { whole = omega arith; good = none-bad },
+              record { whole = omega arith; good = none-bad area values (omega (arith, is)) },
               λ rest. rw (eq-eqb (length values % 5) 0 whole, sums, ← is, le-ltb first (length values / 5) none, le-ltb maxRows (length rows) h),
             )

@@ -59,12 +59,20 @@ badEntry size values k = bad size (idIn values k) (typeIn values k) (aggregateIn
 unfoldable pub firstBad : ℕ → List ℕ → ℕ
 firstBad size values = first (λ (i : ℕ). badEntry size values (entryWords * i)) (entriesIn values)
 
--- 18, by its rules 1, 2, 3
+-- 18, by its rules 1, 2, 3: entries that are not whole, rows that have not as many values, the first bad entry
+
+abbrev pub notWhole : List ℕ → Line Answer
+notWhole values = (length values % entryWords) ≠? 0 ⇒ refuse 18 (1 ∷ entriesIn values ∷ [])
+
+abbrev pub badValue : List ℕ → List ℕ → Line Answer
+badValue area values =
+    firstBad (length area) values <? entriesIn values ⇒ refuse 18 (3 ∷ firstBad (length area) values ∷ [])
+
 abbrev pub badTableLines : List ℕ → List ℕ → List ℕ → List (Line Answer)
 badTableLines area rows values =
-    (length values % entryWords) ≠? 0 ⇒ refuse 18 (1 ∷ entriesIn values ∷ [])
+    notWhole values
     ∷ total rows ≠? entriesIn values ⇒ refuse 18 (2 ∷ length rows ∷ [])
-    ∷ firstBad (length area) values <? entriesIn values ⇒ refuse 18 (3 ∷ firstBad (length area) values ∷ [])
+    ∷ badValue area values
     ∷ []
 
 -- 10

@@ -4,7 +4,8 @@ ghost use Prim.Native.Nat.{_+_, _≤_};
 ghost use lib.ListN.{length};
 ghost use Rattle.words.specs.Decide.{_=?_};
 ghost use Rattle.wire.specs.Layout.{entryWords};
-ghost use Rattle.wire_check.specs.Writing.{total, bad, badEntry, firstBad};
+ghost use Rattle.wire_check.specs.Writing.{total, bad, badEntry};
+ghost use Rattle.wire_check.specs.Statement.{FindsBad};
 ghost use Rattle.wire_check.specs.Stages.{ChecksTables};
 use wire::error::WireError;
 use wire::kind::BOOLEAN;
@@ -88,8 +89,8 @@ fn bad_entry(size: usize, values: &[u64], k: usize) -> bool
 }
 
 // The first bad entry, else the number of entries.
-fn first_bad(area: &[u8], values: &[u64]) -> usize
-    ensures { λ r. ⌜ r ≡ firstBad (length (now (area .entry))) (now (values .entry)) ⌝ }
+pub fn first_bad(area: &[u8], values: &[u64]) -> usize
+    ensures { λ r. ⌜ FindsBad (now (area .entry)) (now (values .entry)) r ⌝ }
 {
     let n = values.len() / ENTRY_WORDS;
     let mut i = 0;

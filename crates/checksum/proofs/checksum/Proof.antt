@@ -1,11 +1,11 @@
--- `checksum::checksum` meets its contract: the register that is held, swapped back. Assumes nothing.
+-- `checksum::checksum` meets its contract: the register that is held, swapped back, by either engine. Assumes nothing.
 use Rattle.checksum.proofs.Stretches.{swapped-back}
 use borrow.Author.Needs.{needs}
 use Rattle.checksum.proofs.checksum.Statement.{statement}
 use Rattle.checksum.proofs.checksum.Tie as tie
 
-updated-requires : tie.Need-updated-requires
-updated-requires c κs = search needs
+fold-held-requires : tie.Need-fold-held-requires
+fold-held-requires c κs = search needs
 
 swap-bytes-requires : tie.Need-swap-bytes-requires
 swap-bytes-requires c κs = search needs
@@ -13,5 +13,16 @@ swap-bytes-requires c κs = search needs
 returns : tie.Need-returns
 returns c = search (needs, swapped-back)
 
+fold-long-requires : tie.Need-fold-long-requires
+fold-long-requires c κs = search needs
+
+swap-bytes-requires-2 : tie.Need-swap-bytes-requires-2
+swap-bytes-requires-2 c κs = search needs
+
+returns-2 : tie.Need-returns-2
+returns-2 c = search (needs, swapped-back)
+
 pub checksum-spec : {M : Type 1} → statement M
-checksum-spec = tie.close (tie.spec updated-requires swap-bytes-requires returns)
+checksum-spec =
+    tie.close
+    (tie.spec fold-held-requires swap-bytes-requires returns fold-long-requires swap-bytes-requires-2 returns-2)

@@ -1,0 +1,1 @@
+-- Nothing to believe: the statement is `Packs` of `pack_answer`.

@@ -1,0 +1,36 @@
+// Links between the entries of a value table that name one pair of offset and length, kept in the spare bits of their
+// words while packing runs: what a search along them ends at, how all are taken out, and their laws.
+ghost use Prim.Native.Nat.{_<_};
+ghost use mathlib.Core.Path.{_≡_};
+ghost use lib.ListN.{length};
+ghost use Rattle.pack_links.specs.Statement.{plainWord, Unlinks};
+
+pub enum Place {
+    // the entry that has the pair
+    Known(usize),
+    // the word over which to link it
+    Free(usize),
+    // no pair to look for
+    Nowhere,
+}
+
+fn plain_word(values: &[u64], k: usize) -> u64
+    requires { ⌜ k < length (now values) ⌝ }
+    ensures { λ r. ⌜ r ≡ plainWord (now (values .entry)) k ⌝ }
+{
+    if k % 5 < 3 {
+        return values[k] % 65536;
+    }
+    values[k]
+}
+
+// Takes all links out of a table.
+pub fn unlink_all(values: &mut [u64])
+    ensures { λ r. ⌜ Unlinks (now (values .entry)) (now (values .exit)) ⌝ }
+{
+    let mut k = 0;
+    while k < values.len() {
+        values[k] = plain_word(values, k);
+        k += 1;
+    }
+}

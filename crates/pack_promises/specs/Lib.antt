@@ -1,0 +1,2 @@
+-- What is guaranteed of packing, by name.
+pub mod Packing
