@@ -151,6 +151,7 @@ fn part_lines(
         if let (Some(part), Some(rowsets)) = (part, &mut *rowsets) {
             rows(part, rowsets, screen)?;
         }
+        screen.settle()?;
     }
     Ok(())
 }
@@ -337,6 +338,8 @@ struct Pieces {
     end: usize,
     /// Where they begin in the input.
     offset: u64,
+    /// Whether the input has ended. A file that grows meanwhile is read no further.
+    ended: bool,
 }
 
 impl Pieces {
@@ -347,6 +350,7 @@ impl Pieces {
             start: 0,
             end: 0,
             offset: 0,
+            ended: false,
         }
     }
 
@@ -363,7 +367,7 @@ impl Pieces {
     /// Reads on until so many bytes are there, or tells that the input ends before. The buffer grows to
     /// twice what is there at most, so that nothing is reserved for what a header declares alone.
     fn wait(&mut self, length: usize, screen: &mut Screen) -> Result<bool, Stop> {
-        while self.rest().len() < length {
+        while self.rest().len() < length && !self.ended {
             if self.bytes.len() - self.start < length && self.start > 0 {
                 self.bytes.copy_within(self.start..self.end, 0);
                 self.end -= self.start;
@@ -373,11 +377,10 @@ impl Pieces {
                 let room = length.min(self.bytes.len().saturating_mul(2)).max(PIECE);
                 self.input.grow(&mut self.bytes, room)?;
             }
-            match self.input.read(&mut self.bytes[self.end..], screen)? {
-                0 => return Ok(false),
-                count => self.end += count,
-            }
+            let count = self.input.read(&mut self.bytes[self.end..], screen)?;
+            self.end += count;
+            self.ended = count == 0;
         }
-        Ok(true)
+        Ok(self.rest().len() >= length)
     }
 }
