@@ -10,7 +10,7 @@ use std::io::Write as _;
 /// `cablefinch error FILE`.
 pub fn run(arguments: &Arguments, screen: &mut Screen) -> Result<Verdict, Stop> {
     input::each(arguments, screen, |mut input, screen| {
-        let bytes = input.whole(usize::MAX, screen)?;
+        let bytes = input.part(screen)?;
         let refusal = match TError::read(&bytes) {
             Ok(message) => {
                 for error in message.errors() {

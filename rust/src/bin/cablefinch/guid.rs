@@ -23,7 +23,7 @@ pub fn run(arguments: &Arguments, screen: &mut Screen) -> Result<Verdict, Stop> 
 
 /// Each line of an input is a text.
 fn lines(mut input: Input, screen: &mut Screen) -> Result<Verdict, Stop> {
-    let bytes = input.whole(usize::MAX, screen)?;
+    let bytes = input.part(screen)?;
     let mut worst = Verdict::Right;
     let bytes = bytes.strip_suffix(b"\n").unwrap_or(&bytes);
     for (index, line) in bytes.split(|&byte| byte == b'\n').enumerate() {

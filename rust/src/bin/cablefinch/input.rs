@@ -3,6 +3,7 @@
 use crate::arguments::{Arguments, STANDARD_INPUT};
 use crate::screen::{Screen, without_number};
 use crate::{Stop, Verdict, shown};
+use cablefinch::packet::MAX_PART_SIZE;
 use std::ffi::OsStr;
 use std::fs::File;
 use std::io::{self, Read};
@@ -101,6 +102,19 @@ impl Input {
             }
         }
         bytes.truncate(end);
+        Ok(bytes)
+    }
+
+    /// Reads all that a packet's part could hold; longer input is none.
+    pub fn part(&mut self, screen: &mut Screen) -> Result<Vec<u8>, Stop> {
+        const MOST: usize = MAX_PART_SIZE as usize;
+        let bytes = self.whole(MOST + 1, screen)?;
+        if bytes.len() > MOST {
+            return Err(Stop::Input(format!(
+                "{}: it has more than the {MOST} bytes of a packet's part: is it the right file?",
+                self.told()
+            )));
+        }
         Ok(bytes)
     }
 

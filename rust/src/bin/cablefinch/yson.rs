@@ -10,7 +10,7 @@ use std::io::Write as _;
 /// `cablefinch yson FILE`.
 pub fn run(arguments: &Arguments, screen: &mut Screen) -> Result<Verdict, Stop> {
     input::each(arguments, screen, |mut input, screen| {
-        let bytes = input.whole(usize::MAX, screen)?;
+        let bytes = input.part(screen)?;
         let error = match yson::check(&bytes) {
             Ok(items) => {
                 screen.paint(Colour::Green, "well formed");
