@@ -26,16 +26,15 @@
 //! # Ok::<(), Box<dyn std::error::Error>>(())
 //! ```
 
-mod shown;
 #[cfg(test)]
 mod tests;
 mod write;
 
 pub use write::{NewError, encode, encode_into, encoded_size};
 
+use crate::shown::{Node, Text};
 use crate::sys::{self, Outcome};
 use crate::table::{self, count};
-use shown::{ShownText, ShownValue};
 use std::fmt;
 
 /// The deepest level of errors: the outermost is at 1, an inner error one below its parent.
@@ -255,10 +254,10 @@ impl fmt::Display for ErrorEntry<'_, '_> {
         let before = indent - STEP;
         write!(formatter, "{:before$}error {}", "", self.code)?;
         if !self.text.is_empty() {
-            write!(formatter, ": {}", ShownText(self.text))?;
+            write!(formatter, ": {}", Text(self.text))?;
         }
         for Attribute { key, value } in self.attributes() {
-            let (key, value) = (ShownText(key), ShownValue(value));
+            let (key, value) = (Text(key), Node(value));
             write!(formatter, "\n{:indent$}{key} = {value}", "")?;
         }
         Ok(())

@@ -5,10 +5,14 @@ mod error;
 pub use error::{ParseGuidError, Reason};
 
 use crate::sys;
+use crate::table;
 use std::collections::hash_map::RandomState;
 use std::fmt;
 use std::hash::{BuildHasher, Hasher};
 use std::str::FromStr;
+
+/// The most bytes of a GUID's text: four words of eight digits, and three dashes.
+pub const MAX_TEXT_LENGTH: usize = 35;
 
 /// A GUID, held as its sixteen wire bytes.
 #[derive(Debug, Clone, Copy, PartialEq, Eq, PartialOrd, Ord, Hash, Default)]
@@ -92,6 +96,13 @@ impl Guid {
         sys::guid_is_null(&self.0)
     }
 
+    /// The text in room of the caller's, for one to whom `to_string` takes too long.
+    pub fn text<'r>(&self, room: &'r mut [u8; MAX_TEXT_LENGTH]) -> &'r [u8] {
+        let outcome = sys::guid_print(&self.0, room);
+        // The room suffices for every GUID, so nothing is refused.
+        table::stretch(room, 0..table::count(outcome.count))
+    }
+
     /// Reads a GUID's text from bytes that may be anything: four fields of 1 to 8 hex digits with dashes
     /// between, of either case, leading zeros allowed, and no plus, which the original takes.
     pub fn from_text(text: &[u8]) -> Result<Self, ParseGuidError> {
@@ -111,15 +122,10 @@ fn low(word: u64) -> u32 {
 
 impl fmt::Display for Guid {
     fn fmt(&self, formatter: &mut fmt::Formatter<'_>) -> fmt::Result {
-        // Four words of eight digits and three dashes are 35 bytes.
-        let mut room = [0; 40];
-        let outcome = sys::guid_print(&self.0, &mut room);
-        let text = room.get(..crate::table::count(outcome.count));
-        match text.map(std::str::from_utf8) {
-            // As the original: no width and no precision is heeded.
-            Some(Ok(text)) if outcome.kind == sys::ACCEPTED => formatter.write_str(text),
-            _ => Err(fmt::Error),
-        }
+        let mut room = [0; MAX_TEXT_LENGTH];
+        let text = std::str::from_utf8(self.text(&mut room)).map_err(|_| fmt::Error)?;
+        // As the original: no width and no precision is heeded.
+        formatter.write_str(text)
     }
 }
 
@@ -162,6 +168,8 @@ mod tests {
             Guid([0xff; 16]),
         ] {
             assert_eq!(id.to_string().parse(), Ok(id));
+            let mut room = [0; MAX_TEXT_LENGTH];
+            assert_eq!(id.text(&mut room), id.to_string().as_bytes());
             assert_eq!(Guid::from_parts(id.parts()), id);
             assert_eq!(Guid::from_wire_words(id.parts()), id);
             let (first, second) = id.halves();

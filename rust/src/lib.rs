@@ -9,6 +9,7 @@
 //! - [`yson`]: whether an Any or a Composite value is well formed, and the items of its outer map.
 //! - [`error`]: the error message of a failed call, which prints as a person reads it.
 //! - [`guid`] and [`crc64`]: the ids and the checksums of both.
+//! - [`shown`]: what others wrote, for a log or a terminal.
 //!
 //! Nothing here panics on any input, and no size that a peer declares is allocated before the
 //! bytes that justify it are there. Every refusal has a number, `code()`, the same in all of
@@ -49,6 +50,7 @@ pub mod error;
 pub mod guid;
 pub mod pack;
 pub mod packet;
+pub mod shown;
 #[allow(unsafe_code)]
 mod sys;
 mod table;

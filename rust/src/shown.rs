@@ -1,4 +1,13 @@
-//! Texts and values as a person reads them, each on one line whatever bytes it has.
+//! Texts and values as a person reads them, each on one line whatever bytes it has: for logs and
+//! terminals, which obey some of what others wrote.
+//!
+//! ```
+//! use cablefinch::shown::{Node, Quoted, Text};
+//!
+//! assert_eq!(Text(b"Z\xc3\xa4hne\x1b[31m\xff").to_string(), r"Zähne\u{1b}[31m\xff");
+//! assert_eq!(Quoted(b"a \"term\"").to_string(), r#""a \"term\"""#);
+//! assert_eq!(Node(b"{\x01\x02a=\x02\x0e}").to_string(), r#"{"a" = 7}"#);
+//! ```
 
 use crate::yson;
 use std::fmt::{self, Write};
@@ -29,19 +38,34 @@ fn show(bytes: &[u8], mark: &[char], formatter: &mut fmt::Formatter<'_>) -> fmt:
     Ok(())
 }
 
-/// A text without quotes.
-pub(super) struct ShownText<'a>(pub(super) &'a [u8]);
+/// A text without quotes. Control characters, those that turn the direction of writing, and bytes that are
+/// no UTF-8 are escaped.
+#[derive(Debug, Clone, Copy, PartialEq, Eq)]
+pub struct Text<'a>(pub &'a [u8]);
 
-impl fmt::Display for ShownText<'_> {
+impl fmt::Display for Text<'_> {
     fn fmt(&self, formatter: &mut fmt::Formatter<'_>) -> fmt::Result {
         show(self.0, &[], formatter)
     }
 }
 
-/// An attribute's value: YSON in its text form where it is YSON in the binary one, else as a text.
-pub(super) struct ShownValue<'a>(pub(super) &'a [u8]);
+/// A text in quotes, with a backslash before those and the backslashes within it.
+#[derive(Debug, Clone, Copy, PartialEq, Eq)]
+pub struct Quoted<'a>(pub &'a [u8]);
 
-impl fmt::Display for ShownValue<'_> {
+impl fmt::Display for Quoted<'_> {
+    fn fmt(&self, formatter: &mut fmt::Formatter<'_>) -> fmt::Result {
+        formatter.write_char('"')?;
+        show(self.0, &['"', '\\'], formatter)?;
+        formatter.write_char('"')
+    }
+}
+
+/// YSON in its text form where it is YSON in the binary one, else as a [`Text`].
+#[derive(Debug, Clone, Copy, PartialEq, Eq)]
+pub struct Node<'a>(pub &'a [u8]);
+
+impl fmt::Display for Node<'_> {
     fn fmt(&self, formatter: &mut fmt::Formatter<'_>) -> fmt::Result {
         if yson::check(self.0).is_err() {
             return show(self.0, &[], formatter);
@@ -55,9 +79,7 @@ impl fmt::Display for ShownValue<'_> {
                     let length = varint(&mut rest) as usize / 2;
                     let (text, behind) = rest.split_at(length.min(rest.len()));
                     rest = behind;
-                    formatter.write_char('"')?;
-                    show(text, &['"', '\\'], formatter)?;
-                    formatter.write_char('"')?;
+                    Quoted(text).fmt(formatter)?;
                 }
                 0x02 => {
                     let zigzag = varint(&mut rest);
