@@ -902,6 +902,8 @@ fn messages(table: &mut Table) {
             ),
             wrapped: f64::NAN,
         });
+    }
+}
 
 /// The words of a value in a table, and the bytes of each string that is packed.
 const VALUE: usize = 5;
