@@ -57,24 +57,7 @@ pub fn read(random: &mut Random) -> String {
         }
         _ => grown.error(random, 4),
     };
-    match random.below(8) {
-        0 => random.damage(&mut bytes),
-        1 => {
-            let keep = random.below(bytes.len() as u64 + 1) as usize;
-            bytes.truncate(keep);
-        }
-        2 => {
-            let at = random.below(bytes.len() as u64 + 1) as usize;
-            bytes.insert(at, *random.pick(&MARKS));
-        }
-        3 => {
-            let at = random.below(bytes.len() as u64) as usize;
-            if let Some(byte) = bytes.get_mut(at) {
-                *byte = *random.pick(&MARKS);
-            }
-        }
-        _ => {}
-    }
+    random.spoil(&mut bytes, &MARKS);
     let errors = room(random, grown.errors);
     let attributes = room(random, grown.attributes);
     read_line(errors, attributes, &bytes)

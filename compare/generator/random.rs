@@ -183,6 +183,28 @@ impl Random {
         }
     }
 
+    /// In four of eight cases a change: damage, a cut, or one of the marks put in or over a byte.
+    pub fn spoil(&mut self, bytes: &mut Vec<u8>, marks: &[u8]) {
+        match self.below(8) {
+            0 => self.damage(bytes),
+            1 => {
+                let keep = self.below(bytes.len() as u64 + 1) as usize;
+                bytes.truncate(keep);
+            }
+            2 => {
+                let at = self.below(bytes.len() as u64 + 1) as usize;
+                bytes.insert(at, *self.pick(marks));
+            }
+            3 => {
+                let at = self.below(bytes.len() as u64) as usize;
+                if let Some(byte) = bytes.get_mut(at) {
+                    *byte = *self.pick(marks);
+                }
+            }
+            _ => {}
+        }
+    }
+
     /// One small change: a bit, a byte, a byte more, a byte less, a cut or a burst.
     pub fn damage(&mut self, bytes: &mut Vec<u8>) {
         let length = bytes.len() as u64;

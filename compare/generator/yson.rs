@@ -36,24 +36,7 @@ pub fn case(random: &mut Random) -> String {
             pairs(random, 3, BRACKETS[1], &mut bytes)
         }
     };
-    match random.below(8) {
-        0 => random.damage(&mut bytes),
-        1 => {
-            let keep = random.below(bytes.len() as u64 + 1) as usize;
-            bytes.truncate(keep);
-        }
-        2 => {
-            let at = random.below(bytes.len() as u64 + 1) as usize;
-            bytes.insert(at, *random.pick(&MARKS));
-        }
-        3 => {
-            let at = random.below(bytes.len() as u64) as usize;
-            if let Some(byte) = bytes.get_mut(at) {
-                *byte = *random.pick(&MARKS);
-            }
-        }
-        _ => {}
-    }
+    random.spoil(&mut bytes, &MARKS);
     let room = match random.below(4) {
         0 => random.small(8),
         1 => random.edge(),
