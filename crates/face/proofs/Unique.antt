@@ -22,10 +22,7 @@ use Rattle.yson.specs.Reading.{wordsOf, listing}
 use Rattle.yson.proofs.Unique.{one-reading}
 use Rattle.words.specs.Paper.{outcome}
 use Rattle.words.specs.declared.outcome.Outcome.{Outcome}
-use Rattle.finding.specs.Words.{wordsOf as findingWords}
-use Rattle.why_packet.proofs.Unique as Packet
-use Rattle.why_rowset.proofs.Unique as Rowset
-use Rattle.face.specs.Statement.{WritesId, Prints, Parses, GivesParts, GivesHalves, TellsNull, Decodes, Encodes, Measures, Validates, LendsPart, Contains, DecodesRowset, EncodesRowset, MeasuresRowset, ReadsValue, PacksArea, ChecksYson, ListsYson, DecodesError, MeasuresError, EncodesError, modeOf, WhysPacket, WhysRowset}
+use Rattle.face.specs.Statement.{WritesId, Prints, Parses, GivesParts, GivesHalves, TellsNull, Decodes, Encodes, Measures, Validates, LendsPart, Contains, DecodesRowset, EncodesRowset, MeasuresRowset, ReadsValue, PacksArea, ChecksYson, ListsYson, DecodesError, MeasuresError, EncodesError}
 
 -- so of two things, and of three
 equal-to-two : {A B : Type 0} (a : A) (b : B) → OneResult (λ (x : A × B). (x .0 ≡ a) × (x .1 ≡ b))
@@ -139,11 +136,3 @@ cablefinch-error-size-unique area errors attributes = equal-to-one _
 
 pub cablefinch-error-write-unique : (area errors attributes before : List ℕ) → OneResult (λ (x : Outcome × List ℕ). EncodesError area errors attributes before (x .0) (x .1))
 cablefinch-error-write-unique area errors attributes before = equal-to-two _ _
-
-pub cablefinch-why-packet-unique : (mode : ℕ) (s : List ℕ) (limit ceiling : ℕ) → OneResult (WhysPacket mode s limit ceiling)
-cablefinch-why-packet-unique mode s limit ceiling r r′ (f, explains, tells) (f′, explains′, tells′) =
-    tells ∙ ap findingWords (Packet.explain-unique s (modeOf mode) limit ceiling f f′ explains explains′) ∙ sym tells′
-
-pub cablefinch-why-rowset-unique : (s : List ℕ) → OneResult (WhysRowset s)
-cablefinch-why-rowset-unique s r r′ (f, explains, tells) (f′, explains′, tells′) =
-    tells ∙ ap findingWords (Rowset.explain-unique s f f′ explains explains′) ∙ sym tells′

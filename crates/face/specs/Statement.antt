@@ -36,10 +36,6 @@ use Rattle.error_tree.specs.Tree.{tree, errorWords, attributeWords}
 use Rattle.error_tree.specs.Reading as error
 use Rattle.error_write.specs.Written.{errorBytes}
 use Rattle.error_write.specs.Writing as errorWriting
-use Rattle.finding.specs.Words.{TellsFinding}
-use Rattle.finding.specs.declared.Finding.{Finding}
-use Rattle.why_packet.specs.Checks.{ExplainsPacket}
-use Rattle.why_rowset.specs.Checks.{ExplainsRowset}
 
 -- GUIDs, lent as wire bytes
 
@@ -77,10 +73,6 @@ abbrev pub Decodes : ℕ → List ℕ → ℕ → ℕ → List ℕ → Outcome �
 Decodes mode s limit ceiling table r after =
     let answer = reading s (limited (modeOf mode) limit ceiling table) in
     Tells answer r × Holds answer (entries s) table after
-
--- the one finding that the order tells (document 02, A9), in words
-abbrev pub WhysPacket : ℕ → List ℕ → ℕ → ℕ → Outcome → Type 0
-WhysPacket mode s limit ceiling r = (f : Finding) × ExplainsPacket s (modeOf mode) limit ceiling f × TellsFinding f r
 
 -- an unknown type is refused by 2, before any other check
 abbrev pub unknownType : ℕ → Answer
@@ -135,9 +127,6 @@ abbrev pub PacksArea : List ℕ → List ℕ → List ℕ → Outcome → List �
 PacksArea area values out r values′ out′ =
     let answer = packing area values (length out) in
     Tells answer r × Holds answer (packedTable values) values values′ × Holds answer (packedArea area values) out out′
-
-abbrev pub WhysRowset : List ℕ → Outcome → Type 0
-WhysRowset s r = (f : Finding) × ExplainsRowset s f × TellsFinding f r
 
 -- YSON: the answer of the input's reading; four words are room for an item
 

@@ -2,7 +2,7 @@
 // A mode is a number too: 0 is archive, any other is live.
 ghost use Rattle.packet.specs.Statement.{PartChecksumIs};
 ghost use Rattle.packet_read.specs.Statement.{defaultCeiling};
-ghost use Rattle.face.specs.Statement.{modeOf, Decodes, WhysPacket, unknownType, Encodes, Measures, Validates, LendsPart, Contains};
+ghost use Rattle.face.specs.Statement.{modeOf, Decodes, unknownType, Encodes, Measures, Validates, LendsPart, Contains};
 ghost use Rattle.words.specs.Paper.{Tells};
 ghost use mathlib.Core.Path.{_≡_};
 use guid::Guid;
@@ -54,20 +54,6 @@ pub extern "C" fn cablefinch_decode(
 {
     let mode = mode_of(mode);
     packet_read::outcome(packet_read::decode(mode, input, max_message_size, parts))
-}
-
-#[no_mangle]
-pub extern "C" fn cablefinch_why_packet(
-    mode: u64,
-    input: &[u8],
-    max_message_size: u64,
-    max_part_count: u32,
-) -> Outcome
-    ensures { λ r. ⌜ WhysPacket mode (now (input .entry)) «max_message_size» «max_part_count» r ⌝ }
-{
-    let mode = mode_of(mode);
-    let told = why_packet::explain(mode, input, max_message_size, max_part_count);
-    finding::outcome(told)
 }
 
 fn unknown_type(kind: u64) -> Outcome

@@ -1,7 +1,7 @@
 // Rowsets: read into lent row and value tables, written from them; one value by itself; the plain form; the bytes behind a
 // value table packed.
 ghost use Rattle.wire_read.specs.Statement.{TellsPlain};
-ghost use Rattle.face.specs.Statement.{DecodesRowset, EncodesRowset, MeasuresRowset, ReadsValue, PacksArea, WhysRowset};
+ghost use Rattle.face.specs.Statement.{DecodesRowset, EncodesRowset, MeasuresRowset, ReadsValue, PacksArea};
 use words::outcome::Outcome;
 
 #[no_mangle]
@@ -53,11 +53,4 @@ pub extern "C" fn cablefinch_pack(area: &[u8], values: &mut [u64], out: &mut [u8
     ensures { λ r. ⌜ PacksArea (now (area .entry)) (now (values .entry)) (now (out .entry)) r (now (values .exit)) (now (out .exit)) ⌝ }
 {
     pack_answer::answer::outcome(pack::pack(area, values, out))
-}
-
-#[no_mangle]
-pub extern "C" fn cablefinch_why_rowset(input: &[u8]) -> Outcome
-    ensures { λ r. ⌜ WhysRowset (now (input .entry)) r ⌝ }
-{
-    finding::outcome(why_rowset::explain(input))
 }

@@ -3,8 +3,8 @@ ghost use Rattle.face.specs.Version.{InterfaceIs};
 
 // Answers the version of this interface, which is also the number in its name.
 #[no_mangle]
-pub extern "C" fn cablefinch_face_5() -> u64
+pub extern "C" fn cablefinch_face_6() -> u64
     ensures { λ r. ⌜ InterfaceIs r ⌝ }
 {
-    5
+    6
 }

@@ -1,7 +1,7 @@
 -- `cablefinch_why_packet` meets its contract: the library's finding in words. Assumes nothing.
 use borrow.Author.Needs.{needs}
-use Rattle.face.proofs.packets.cablefinch_why_packet.Statement.{statement}
-use Rattle.face.proofs.packets.cablefinch_why_packet.Tie as tie
+use Rattle.face_why.proofs.cablefinch_why_packet.Statement.{statement}
+use Rattle.face_why.proofs.cablefinch_why_packet.Tie as tie
 
 mode-of-requires : tie.Need-mode-of-requires
 mode-of-requires c κs = search needs

@@ -1,7 +1,7 @@
 -- `cablefinch_why_rowset` meets its contract: the library's finding in words. Assumes nothing.
 use borrow.Author.Needs.{needs}
-use Rattle.face.proofs.rowsets.cablefinch_why_rowset.Statement.{statement}
-use Rattle.face.proofs.rowsets.cablefinch_why_rowset.Tie as tie
+use Rattle.face_why.proofs.cablefinch_why_rowset.Statement.{statement}
+use Rattle.face_why.proofs.cablefinch_why_rowset.Tie as tie
 
 explain-requires : tie.Need-explain-requires
 explain-requires c κs = search needs
