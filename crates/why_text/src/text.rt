@@ -2,6 +2,7 @@
 use finding::Field;
 use finding::Finding;
 use finding::Wanted;
+use finding_name::write_name;
 use numerals::write_decimal;
 ghost use mathlib.Core.List.{[], _∷_, _++_};
 ghost use Prim.Native.Nat.{_+_, _≤_};
@@ -38,27 +39,9 @@ fn put_name(out: &mut [u8], at: usize, field: Field) -> usize
     requires { ⌜ at + 18 ≤ length (now out) ⌝ }
     ensures { λ r. ⌜ Wrote (text (nameOf field) ++ 32 ∷ []) at (now (out .entry)) r (now (out .exit)) × (r ≤ at + 18) ⌝ }
 {
-    match field {
-        Field::FixedHeader => put_bytes(out, at, b"fixed-header "),
-        Field::Signature => put_bytes(out, at, b"signature "),
-        Field::TypeCode => put_bytes(out, at, b"type "),
-        Field::FixedChecksum => put_bytes(out, at, b"fixed-checksum "),
-        Field::PartCount => put_bytes(out, at, b"part-count "),
-        Field::Headers => put_bytes(out, at, b"headers "),
-        Field::VariableChecksum => put_bytes(out, at, b"variable-checksum "),
-        Field::PartSize => put_bytes(out, at, b"part-size "),
-        Field::Whole => put_bytes(out, at, b"whole "),
-        Field::PartChecksum => put_bytes(out, at, b"part-checksum "),
-        Field::RowCount => put_bytes(out, at, b"row-count "),
-        Field::ValueCount => put_bytes(out, at, b"value-count "),
-        Field::ValueHeader => put_bytes(out, at, b"value-header "),
-        Field::Word => put_bytes(out, at, b"word "),
-        Field::Blob => put_bytes(out, at, b"blob "),
-        Field::Length => put_bytes(out, at, b"length "),
-        Field::TrailingBytes => put_bytes(out, at, b"trailing-bytes "),
-        Field::Aggregate => put_bytes(out, at, b"aggregate "),
-        Field::Padding => put_bytes(out, at, b"padding "),
-    }
+    let last = at + write_name(&mut out[at..], field);
+    out[last] = b' ';
+    last + 1
 }
 
 // What was wanted, and the line's end.

@@ -1,391 +1,60 @@
--- `text::put_name` meets its contract, name by name. Assumes nothing.
-use mathlib.Core.Path.{refl}
+-- `text::put_name` meets its contract: the name over the tail's front, and a space behind it. Assumes nothing.
+use mathlib.Core.Path.{ap}
+use Prim.Native.Nat.{ℕ, _+_}
 use native.Mathlib.Omega.{arith}
+use Rattle.words.specs.Text.{text}
+use Rattle.finding.specs.Meaning.{nameOf}
+use Rattle.finding_name.proofs.NameLaws.{name-short}
+use Rattle.listing.specs.Stages.{Wrote}
+use Rattle.listing.proofs.TextLaws.{wrote-tail, wrote-behind}
 use borrow.Author.Needs.{needs}
 use Rattle.why_text.proofs.text.put_name.Statement.{statement}
 use Rattle.why_text.proofs.text.put_name.Tie as tie
 
-enum-told : tie.Need-enum-told
-enum-told c = search needs
+sub-write-name : tie.Need-sub-write-name
+sub-write-name c = search needs
 
-slice-aggregate-put-bytes : tie.Need-slice-aggregate-put-bytes
-slice-aggregate-put-bytes c = refl
+part-write-name-start : tie.Need-part-write-name-start
+part-write-name-start c = search needs
 
-put-bytes-requires : tie.Need-put-bytes-requires
-put-bytes-requires c κs = omega arith
+part-write-name-end : tie.Need-part-write-name-end
+part-write-name-end c = search needs
 
-enum-told-2 : tie.Need-enum-told-2
-enum-told-2 c = search needs
+write-name-requires : tie.Need-write-name-requires
+write-name-requires c κs = search needs
 
-slice-aggregate-put-bytes-2 : tie.Need-slice-aggregate-put-bytes-2
-slice-aggregate-put-bytes-2 c = refl
+add-last : tie.Need-add-last
+add-last c = omega (arith, c .before .before .write-name .ensures .0, name-short (c .before .before .before .before .before .args .field))
 
-put-bytes-requires-2 : tie.Need-put-bytes-requires-2
-put-bytes-requires-2 c κs = omega arith
+slice-write-out : tie.Need-slice-write-out
+slice-write-out c = omega (arith, c .before .before .write-name .ensures .0, name-short (c .before .before .before .before .before .args .field))
 
-enum-told-3 : tie.Need-enum-told-3
-enum-told-3 c = search needs
-
-slice-aggregate-put-bytes-3 : tie.Need-slice-aggregate-put-bytes-3
-slice-aggregate-put-bytes-3 c = refl
-
-put-bytes-requires-3 : tie.Need-put-bytes-requires-3
-put-bytes-requires-3 c κs = omega arith
-
-enum-told-4 : tie.Need-enum-told-4
-enum-told-4 c = search needs
-
-slice-aggregate-put-bytes-4 : tie.Need-slice-aggregate-put-bytes-4
-slice-aggregate-put-bytes-4 c = refl
-
-put-bytes-requires-4 : tie.Need-put-bytes-requires-4
-put-bytes-requires-4 c κs = omega arith
-
-enum-told-5 : tie.Need-enum-told-5
-enum-told-5 c = search needs
-
-slice-aggregate-put-bytes-5 : tie.Need-slice-aggregate-put-bytes-5
-slice-aggregate-put-bytes-5 c = refl
-
-put-bytes-requires-5 : tie.Need-put-bytes-requires-5
-put-bytes-requires-5 c κs = omega arith
-
-enum-told-6 : tie.Need-enum-told-6
-enum-told-6 c = search needs
-
-slice-aggregate-put-bytes-6 : tie.Need-slice-aggregate-put-bytes-6
-slice-aggregate-put-bytes-6 c = refl
-
-put-bytes-requires-6 : tie.Need-put-bytes-requires-6
-put-bytes-requires-6 c κs = omega arith
-
-enum-told-7 : tie.Need-enum-told-7
-enum-told-7 c = search needs
-
-slice-aggregate-put-bytes-7 : tie.Need-slice-aggregate-put-bytes-7
-slice-aggregate-put-bytes-7 c = refl
-
-put-bytes-requires-7 : tie.Need-put-bytes-requires-7
-put-bytes-requires-7 c κs = omega arith
-
-enum-told-8 : tie.Need-enum-told-8
-enum-told-8 c = search needs
-
-slice-aggregate-put-bytes-8 : tie.Need-slice-aggregate-put-bytes-8
-slice-aggregate-put-bytes-8 c = refl
-
-put-bytes-requires-8 : tie.Need-put-bytes-requires-8
-put-bytes-requires-8 c κs = omega arith
-
-enum-told-9 : tie.Need-enum-told-9
-enum-told-9 c = search needs
-
-slice-aggregate-put-bytes-9 : tie.Need-slice-aggregate-put-bytes-9
-slice-aggregate-put-bytes-9 c = refl
-
-put-bytes-requires-9 : tie.Need-put-bytes-requires-9
-put-bytes-requires-9 c κs = omega arith
-
-enum-told-10 : tie.Need-enum-told-10
-enum-told-10 c = search needs
-
-slice-aggregate-put-bytes-10 : tie.Need-slice-aggregate-put-bytes-10
-slice-aggregate-put-bytes-10 c = refl
-
-put-bytes-requires-10 : tie.Need-put-bytes-requires-10
-put-bytes-requires-10 c κs = omega arith
-
-enum-told-11 : tie.Need-enum-told-11
-enum-told-11 c = search needs
-
-slice-aggregate-put-bytes-11 : tie.Need-slice-aggregate-put-bytes-11
-slice-aggregate-put-bytes-11 c = refl
-
-put-bytes-requires-11 : tie.Need-put-bytes-requires-11
-put-bytes-requires-11 c κs = omega arith
-
-enum-told-12 : tie.Need-enum-told-12
-enum-told-12 c = search needs
-
-slice-aggregate-put-bytes-12 : tie.Need-slice-aggregate-put-bytes-12
-slice-aggregate-put-bytes-12 c = refl
-
-put-bytes-requires-12 : tie.Need-put-bytes-requires-12
-put-bytes-requires-12 c κs = omega arith
-
-enum-told-13 : tie.Need-enum-told-13
-enum-told-13 c = search needs
-
-slice-aggregate-put-bytes-13 : tie.Need-slice-aggregate-put-bytes-13
-slice-aggregate-put-bytes-13 c = refl
-
-put-bytes-requires-13 : tie.Need-put-bytes-requires-13
-put-bytes-requires-13 c κs = omega arith
-
-enum-told-14 : tie.Need-enum-told-14
-enum-told-14 c = search needs
-
-slice-aggregate-put-bytes-14 : tie.Need-slice-aggregate-put-bytes-14
-slice-aggregate-put-bytes-14 c = refl
-
-put-bytes-requires-14 : tie.Need-put-bytes-requires-14
-put-bytes-requires-14 c κs = omega arith
-
-enum-told-15 : tie.Need-enum-told-15
-enum-told-15 c = search needs
-
-slice-aggregate-put-bytes-15 : tie.Need-slice-aggregate-put-bytes-15
-slice-aggregate-put-bytes-15 c = refl
-
-put-bytes-requires-15 : tie.Need-put-bytes-requires-15
-put-bytes-requires-15 c κs = omega arith
-
-enum-told-16 : tie.Need-enum-told-16
-enum-told-16 c = search needs
-
-slice-aggregate-put-bytes-16 : tie.Need-slice-aggregate-put-bytes-16
-slice-aggregate-put-bytes-16 c = refl
-
-put-bytes-requires-16 : tie.Need-put-bytes-requires-16
-put-bytes-requires-16 c κs = omega arith
-
-enum-told-17 : tie.Need-enum-told-17
-enum-told-17 c = search needs
-
-slice-aggregate-put-bytes-17 : tie.Need-slice-aggregate-put-bytes-17
-slice-aggregate-put-bytes-17 c = refl
-
-put-bytes-requires-17 : tie.Need-put-bytes-requires-17
-put-bytes-requires-17 c κs = omega arith
-
-enum-told-18 : tie.Need-enum-told-18
-enum-told-18 c = search needs
-
-slice-aggregate-put-bytes-18 : tie.Need-slice-aggregate-put-bytes-18
-slice-aggregate-put-bytes-18 c = refl
-
-put-bytes-requires-18 : tie.Need-put-bytes-requires-18
-put-bytes-requires-18 c κs = omega arith
-
-enum-told-19 : tie.Need-enum-told-19
-enum-told-19 c = search needs
-
-slice-aggregate-put-bytes-19 : tie.Need-slice-aggregate-put-bytes-19
-slice-aggregate-put-bytes-19 c = refl
-
-put-bytes-requires-19 : tie.Need-put-bytes-requires-19
-put-bytes-requires-19 c κs = omega arith
+add-result : tie.Need-add-result
+add-result c = omega (arith, c .before .before .write-name .ensures .0, name-short (c .before .before .before .before .before .args .field))
 
 same-length : tie.Need-same-length
 same-length c = search needs
 
 returns : tie.Need-returns
-returns c = let word = c .before .before .put-bytes .ensures in rw (c .before .before .before .before .before .enum-told .given .1) (word, omega (arith, word .ends))
-
-same-length-2 : tie.Need-same-length-2
-same-length-2 c = search needs
-
-returns-2 : tie.Need-returns-2
-returns-2 c = let word = c .before .before .put-bytes2 .ensures in rw (c .before .before .before .before .before .enum-told2 .given .1) (word, omega (arith, word .ends))
-
-same-length-3 : tie.Need-same-length-3
-same-length-3 c = search needs
-
-returns-3 : tie.Need-returns-3
-returns-3 c = let word = c .before .before .put-bytes3 .ensures in rw (c .before .before .before .before .before .enum-told3 .given .1) (word, omega (arith, word .ends))
-
-same-length-4 : tie.Need-same-length-4
-same-length-4 c = search needs
-
-returns-4 : tie.Need-returns-4
-returns-4 c = let word = c .before .before .put-bytes4 .ensures in rw (c .before .before .before .before .before .enum-told4 .given .1) (word, omega (arith, word .ends))
-
-same-length-5 : tie.Need-same-length-5
-same-length-5 c = search needs
-
-returns-5 : tie.Need-returns-5
-returns-5 c = let word = c .before .before .put-bytes5 .ensures in rw (c .before .before .before .before .before .enum-told5 .given .1) (word, omega (arith, word .ends))
-
-same-length-6 : tie.Need-same-length-6
-same-length-6 c = search needs
-
-returns-6 : tie.Need-returns-6
-returns-6 c = let word = c .before .before .put-bytes6 .ensures in rw (c .before .before .before .before .before .enum-told6 .given .1) (word, omega (arith, word .ends))
-
-same-length-7 : tie.Need-same-length-7
-same-length-7 c = search needs
-
-returns-7 : tie.Need-returns-7
-returns-7 c = let word = c .before .before .put-bytes7 .ensures in rw (c .before .before .before .before .before .enum-told7 .given .1) (word, omega (arith, word .ends))
-
-same-length-8 : tie.Need-same-length-8
-same-length-8 c = search needs
-
-returns-8 : tie.Need-returns-8
-returns-8 c = let word = c .before .before .put-bytes8 .ensures in rw (c .before .before .before .before .before .enum-told8 .given .1) (word, omega (arith, word .ends))
-
-same-length-9 : tie.Need-same-length-9
-same-length-9 c = search needs
-
-returns-9 : tie.Need-returns-9
-returns-9 c = let word = c .before .before .put-bytes9 .ensures in rw (c .before .before .before .before .before .enum-told9 .given .1) (word, omega (arith, word .ends))
-
-same-length-10 : tie.Need-same-length-10
-same-length-10 c = search needs
-
-returns-10 : tie.Need-returns-10
-returns-10 c = let word = c .before .before .put-bytes10 .ensures in rw (c .before .before .before .before .before .enum-told10 .given .1) (word, omega (arith, word .ends))
-
-same-length-11 : tie.Need-same-length-11
-same-length-11 c = search needs
-
-returns-11 : tie.Need-returns-11
-returns-11 c = let word = c .before .before .put-bytes11 .ensures in rw (c .before .before .before .before .before .enum-told11 .given .1) (word, omega (arith, word .ends))
-
-same-length-12 : tie.Need-same-length-12
-same-length-12 c = search needs
-
-returns-12 : tie.Need-returns-12
-returns-12 c = let word = c .before .before .put-bytes12 .ensures in rw (c .before .before .before .before .before .enum-told12 .given .1) (word, omega (arith, word .ends))
-
-same-length-13 : tie.Need-same-length-13
-same-length-13 c = search needs
-
-returns-13 : tie.Need-returns-13
-returns-13 c = let word = c .before .before .put-bytes13 .ensures in rw (c .before .before .before .before .before .enum-told13 .given .1) (word, omega (arith, word .ends))
-
-same-length-14 : tie.Need-same-length-14
-same-length-14 c = search needs
-
-returns-14 : tie.Need-returns-14
-returns-14 c = let word = c .before .before .put-bytes14 .ensures in rw (c .before .before .before .before .before .enum-told14 .given .1) (word, omega (arith, word .ends))
-
-same-length-15 : tie.Need-same-length-15
-same-length-15 c = search needs
-
-returns-15 : tie.Need-returns-15
-returns-15 c = let word = c .before .before .put-bytes15 .ensures in rw (c .before .before .before .before .before .enum-told15 .given .1) (word, omega (arith, word .ends))
-
-same-length-16 : tie.Need-same-length-16
-same-length-16 c = search needs
-
-returns-16 : tie.Need-returns-16
-returns-16 c = let word = c .before .before .put-bytes16 .ensures in rw (c .before .before .before .before .before .enum-told16 .given .1) (word, omega (arith, word .ends))
-
-same-length-17 : tie.Need-same-length-17
-same-length-17 c = search needs
-
-returns-17 : tie.Need-returns-17
-returns-17 c = let word = c .before .before .put-bytes17 .ensures in rw (c .before .before .before .before .before .enum-told17 .given .1) (word, omega (arith, word .ends))
-
-same-length-18 : tie.Need-same-length-18
-same-length-18 c = search needs
-
-returns-18 : tie.Need-returns-18
-returns-18 c = let word = c .before .before .put-bytes18 .ensures in rw (c .before .before .before .before .before .enum-told18 .given .1) (word, omega (arith, word .ends))
-
-same-length-19 : tie.Need-same-length-19
-same-length-19 c = search needs
-
-returns-19 : tie.Need-returns-19
-returns-19 c = let word = c .before .before .put-bytes19 .ensures in rw (c .before .before .before .before .before .enum-told19 .given .1) (word, omega (arith, word .ends))
+returns c =
+    let start = c .before .before .before .before .before in
+    let field = start .args .field in
+    let name = c .before .before .write-name in
+    let short = name-short field in
+    let first : Wrote (text (nameOf field)) (start .args .at) (start .args .out .now) _ _ =
+    record { ends = ap (λ (k : ℕ). start .args .at + k) (name .ensures .0); holds = wrote-tail (text (nameOf field)) (start .args .out .now) (name .last .0) (start .args .at) (omega arith) (name .ensures .1) } in
+    (wrote-behind 32 (omega arith) first, omega (arith, name .ensures .0))
 
 pub put-name-spec : {M : Type 1} → statement M
 put-name-spec =
     tie.close
     (tie.spec
-    enum-told
-    slice-aggregate-put-bytes
-    put-bytes-requires
-    enum-told-2
-    slice-aggregate-put-bytes-2
-    put-bytes-requires-2
-    enum-told-3
-    slice-aggregate-put-bytes-3
-    put-bytes-requires-3
-    enum-told-4
-    slice-aggregate-put-bytes-4
-    put-bytes-requires-4
-    enum-told-5
-    slice-aggregate-put-bytes-5
-    put-bytes-requires-5
-    enum-told-6
-    slice-aggregate-put-bytes-6
-    put-bytes-requires-6
-    enum-told-7
-    slice-aggregate-put-bytes-7
-    put-bytes-requires-7
-    enum-told-8
-    slice-aggregate-put-bytes-8
-    put-bytes-requires-8
-    enum-told-9
-    slice-aggregate-put-bytes-9
-    put-bytes-requires-9
-    enum-told-10
-    slice-aggregate-put-bytes-10
-    put-bytes-requires-10
-    enum-told-11
-    slice-aggregate-put-bytes-11
-    put-bytes-requires-11
-    enum-told-12
-    slice-aggregate-put-bytes-12
-    put-bytes-requires-12
-    enum-told-13
-    slice-aggregate-put-bytes-13
-    put-bytes-requires-13
-    enum-told-14
-    slice-aggregate-put-bytes-14
-    put-bytes-requires-14
-    enum-told-15
-    slice-aggregate-put-bytes-15
-    put-bytes-requires-15
-    enum-told-16
-    slice-aggregate-put-bytes-16
-    put-bytes-requires-16
-    enum-told-17
-    slice-aggregate-put-bytes-17
-    put-bytes-requires-17
-    enum-told-18
-    slice-aggregate-put-bytes-18
-    put-bytes-requires-18
-    enum-told-19
-    slice-aggregate-put-bytes-19
-    put-bytes-requires-19
+    sub-write-name
+    part-write-name-start
+    part-write-name-end
+    write-name-requires
+    add-last
+    slice-write-out
+    add-result
     same-length
-    returns
-    same-length-2
-    returns-2
-    same-length-3
-    returns-3
-    same-length-4
-    returns-4
-    same-length-5
-    returns-5
-    same-length-6
-    returns-6
-    same-length-7
-    returns-7
-    same-length-8
-    returns-8
-    same-length-9
-    returns-9
-    same-length-10
-    returns-10
-    same-length-11
-    returns-11
-    same-length-12
-    returns-12
-    same-length-13
-    returns-13
-    same-length-14
-    returns-14
-    same-length-15
-    returns-15
-    same-length-16
-    returns-16
-    same-length-17
-    returns-17
-    same-length-18
-    returns-18
-    same-length-19
-    returns-19)
+    returns)
