@@ -3,5 +3,5 @@ use Rattle.words.specs.Statement.{OneResult}
 use Rattle.words.proofs.Unique.{equal-to-one}
 use Rattle.face.specs.Version.{InterfaceIs}
 
-pub cablefinch-face-5-unique : OneResult InterfaceIs
-cablefinch-face-5-unique = equal-to-one _
+pub cablefinch-face-6-unique : OneResult InterfaceIs
+cablefinch-face-6-unique = equal-to-one _
