@@ -247,10 +247,10 @@ bool cablefinch_is_plain(const uint8_t *input, size_t n);
 cablefinch_outcome *cablefinch_pack(cablefinch_outcome *o, const uint8_t *area, size_t n, uint64_t *values,
         size_t value_words, uint8_t *out, size_t room);
 
-/* Why bytes are refused, for a person. Of a finding `kind` is CABLEFINCH_ACCEPTED where nothing is wrong, CABLEFINCH_MORE,
- * CABLEFINCH_REFUSED with its number, or CABLEFINCH_NOT_PLAIN for a rowset that is accepted but has not the plain form.
- * values: the field (below), its offset (for CABLEFINCH_MORE the length that is waited for), what was found there, what
- * was wanted, and CABLEFINCH_WANTED_NUMBER or what stands in its place. */
+/* Why bytes are refused, for a person. Of a finding `kind` is CABLEFINCH_ACCEPTED where nothing is wrong,
+ * CABLEFINCH_MORE, CABLEFINCH_REFUSED with its number, or CABLEFINCH_NOT_PLAIN for a rowset that is accepted but has not
+ * the plain form. values: the field (below), its offset (for CABLEFINCH_MORE the length that is waited for), what was
+ * found there, what was wanted, and CABLEFINCH_WANTED_NUMBER or what stands in its place. */
 enum { CABLEFINCH_NOT_PLAIN = 3 };
 
 enum {

@@ -1,5 +1,5 @@
--- What each exported function promises, by name: the one finding that the order tells (document 02, A9), in words. Assumes
--- nothing.
+-- What each exported function promises, by name: the one finding that the order tells (document 02, A9), in words.
+-- Assumes nothing.
 use Prim.Native.Nat.{ℕ}
 use mathlib.Core.List.{List}
 use Rattle.words.specs.declared.outcome.Outcome.{Outcome}

@@ -1,6 +1,6 @@
--- What a person is told of an input, after document 02, A9: "the number, the field's name, its offset, the value found and the
--- bound or value wanted"; "For need-more it says which length was being waited for. Any other accepted input prints `ok`".
--- It is what the line of the order that decides has beside its answer. Assumes nothing.
+-- What a person is told of an input, after document 02, A9: "the number, the field's name, its offset, the value found
+-- and the bound or value wanted"; "For need-more it says which length was being waited for. Any other accepted input
+-- prints `ok`". It is what the line of the order that decides has beside its answer. Assumes nothing.
 use Prim.Native.Nat.{ℕ}
 use Prim.Native.String.{String}
 use mathlib.Core.List.{List, []}

@@ -1,5 +1,5 @@
--- A finding in words, for callers in other languages: the kind, a refusal's number, and in the values the field's number, its
--- offset (of need-more the length), what was found, what was wanted, and the kind of that. Assumes nothing.
+-- A finding in words, for callers in other languages: the kind, a refusal's number, and in the values the field's
+-- number, its offset (of need-more the length), what was found, what was wanted, and the kind of that. Assumes nothing.
 use Prim.Native.Nat.{ℕ}
 use mathlib.Core.Path.{_≡_}
 use mathlib.Core.List.{[], _∷_}

@@ -1,5 +1,5 @@
-// What a person is told of an input (document 02, A9): which length is waited for, or which field was looked at, where it
-// stands, what was found there and what was wanted. The readers' orders of checks have it beside each line.
+// What a person is told of an input (document 02, A9): which length is waited for, or which field was looked at, where
+// it stands, what was found there and what was wanted. The readers' orders of checks have it beside each line.
 ghost use mathlib.Core.Path.{_≡_};
 ghost use mathlib.Core.List.{[], _∷_};
 ghost use Rattle.words.specs.Paper.{outcomeOf};
@@ -122,8 +122,8 @@ fn words(kind: u64, number: u64, v0: u64, v1: u64, v2: u64, v3: u64, v4: u64) ->
     }
 }
 
-// A finding as an outcome: its kind, a refusal's number, and in the values the field's number, its offset (of need-more the
-// length), what was found, what was wanted, and whether that is a number or a list of types.
+// A finding as an outcome: its kind, a refusal's number, and in the values the field's number, its offset (of need-more
+// the length), what was found, what was wanted, and whether that is a number or a list of types.
 pub fn outcome(finding: Finding) -> Outcome
     ensures { λ r. ⌜ TellsFinding finding r ⌝ }
 {

@@ -1,5 +1,5 @@
--- What is told of a packet: the reading order's own lines, but for those of a lent table (document 02, A9: "no tables, so 17
--- can't arise"). Assumes nothing.
+-- What is told of a packet: the reading order's own lines, but for those of a lent table (document 02, A9: "no tables,
+-- so 17 can't arise"). Assumes nothing.
 use Prim.Native.Nat.{ℕ}
 use mathlib.Core.List.{List, _++_}
 use Rattle.words.specs.Decide.{Line}

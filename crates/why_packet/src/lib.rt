@@ -1,4 +1,5 @@
-// Why a packet was refused, or what is waited for (document 02, A9): the reader is asked, and its answer is told to a person.
+// Why a packet was refused, or what is waited for (document 02, A9): the reader is asked, and its answer is told to a
+// person.
 use finding::Field;
 use finding::Finding;
 use finding::Wanted;
@@ -177,8 +178,8 @@ fn explain_with(
     }
 }
 
-// Why the packet at the front of `input` is refused under these limits, or what length is waited for. No table is asked for, so
-// a packet that only lacks room in one is fine.
+// Why the packet at the front of `input` is refused under these limits, or what length is waited for. No table is asked
+// for, so a packet that only lacks room in one is fine.
 pub fn explain(mode: Mode, input: &[u8], max_message_size: u64, max_part_count: u32) -> Finding
     ensures { λ r. ⌜ ExplainsPacket (now (input .entry)) mode «max_message_size» «max_part_count» r ⌝ }
 {

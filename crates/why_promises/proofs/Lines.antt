@@ -1,4 +1,5 @@
--- What every line of a rowset's order is: a refusal, or, in the plain form, an acceptance that tells something. Assumes nothing.
+-- What every line of a rowset's order is: a refusal, or, in the plain form, an acceptance that tells something. Assumes
+-- nothing.
 use Prim.Native.Nat.{ℕ, zero, suc, _+_}
 use mathlib.Core.Bool.{Bool, true, false}
 use mathlib.Core.List.{List, [], _∷_, _++_}

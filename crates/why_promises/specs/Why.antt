@@ -1,6 +1,6 @@
--- Document 02, A9. "Proved: each check that 01's order puts earlier passes, the named one doesn't, and the value found is read or
--- counted from the input. For need-more it says which length was being waited for. Any other accepted input prints `ok`". Assumes
--- nothing.
+-- Document 02, A9. "Proved: each check that 01's order puts earlier passes, the named one doesn't, and the value found
+-- is read or counted from the input. For need-more it says which length was being waited for. Any other accepted input
+-- prints `ok`". Assumes nothing.
 use Prim.Native.Nat.{ℕ, _-_, _≤_}
 use Prim.Native.String.{String}
 use mathlib.Core.Bool.{Bool, true, false, _&&_, _||_}
@@ -116,8 +116,8 @@ WhyNamesTheCheck =
     → NamesTheCheck (packetChecks s mode limit ceiling) r × FoundInPacket s (meaning r))
     × ((s : List ℕ) (r : Finding) → ExplainsRowset s r → NamesTheCheck (rowsetChecks s) r × FoundInRowset s (meaning r))
 
--- So of what the packet reader answers, with any table: where it accepts, or only a table is short (17), nothing is told; where it
--- asks for more, a length; and else its number. (18 is of tables that are written from.)
+-- So of what the packet reader answers, with any table: where it accepts, or only a table is short (17), nothing is
+-- told; where it asks for more, a length; and else its number. (18 is of tables that are written from.)
 abbrev pub isWaiting : Saying → Bool
 isWaiting fine = false
 isWaiting (waiting name n) = true

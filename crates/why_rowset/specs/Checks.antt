@@ -1,5 +1,5 @@
--- What is told of a rowset: the reader's own lines, but for those of the lent tables, and behind them, for an input that it
--- accepts, those of the plain form. Assumes nothing.
+-- What is told of a rowset: the reader's own lines, but for those of the lent tables, and behind them, for an input
+-- that it accepts, those of the plain form. Assumes nothing.
 use Prim.Native.Nat.{ℕ}
 use mathlib.Core.List.{List, _++_}
 use Rattle.words.specs.Decide.{Line}

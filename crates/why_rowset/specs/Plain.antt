@@ -1,6 +1,7 @@
--- The plain form as an order of checks, after document 02, A9: "For an accepted rowset that isn't plain it names the first byte
--- of the first field, or the first padding byte, that breaks that rule." The rule is document 02's A2: every aggregate byte is 0
--- or 1, the types 2 to 6 have length word 0, a boolean's word is 0 or 1, and padding is zero. Assumes nothing.
+-- The plain form as an order of checks, after document 02, A9: "For an accepted rowset that isn't plain it names the
+-- first byte of the first field, or the first padding byte, that breaks that rule." The rule is document 02's A2: every
+-- aggregate byte is 0 or 1, the types 2 to 6 have length word 0, a boolean's word is 0 or 1, and padding is zero.
+-- Assumes nothing.
 use Prim.Native.Nat.{ℕ, zero, suc, _+_}
 use Prim.Native.String.{String}
 use mathlib.Core.Bool.{not, _&&_}

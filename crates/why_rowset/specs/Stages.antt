@@ -1,6 +1,6 @@
--- What the private stages hand on: nobody has to believe it. A stage decides some lines of the reader's order: what it finds is
--- what they tell, whatever stands behind them; where it goes on they are silent, and the first line of the plain form that
--- holds so far is kept. Assumes nothing.
+-- What the private stages hand on: nobody has to believe it. A stage decides some lines of the reader's order: what it
+-- finds is what they tell, whatever stands behind them; where it goes on they are silent, and the first line of the
+-- plain form that holds so far is kept. Assumes nothing.
 use Prim.Native.Nat.{ℕ, _+_, _≤_}
 use mathlib.Core.Path.{_≡_}
 use mathlib.Core.Bool.{true, false, _&&_}

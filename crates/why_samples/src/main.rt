@@ -1,5 +1,5 @@
-// Explains each file that its arguments name, behind a line with the name: the worked examples of `why`, every number and every
-// field, with the line that each must have, for a gate that runs a program on one standard input only.
+// Explains each file that its arguments name, behind a line with the name: the worked examples of `why`, every number
+// and every field, with the line that each must have, for a gate that runs a program on one standard input only.
 use libc::STDERR_FILENO;
 use libc::STDOUT_FILENO;
 

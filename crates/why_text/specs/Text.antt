@@ -1,6 +1,6 @@
--- The line that `why` prints, by what is told, after document 02, A9: it "prints the number, the field's name, its offset, the
--- value found and the bound or value wanted"; "For need-more it says which length was being waited for. Any other accepted input
--- prints `ok`". Words have one space between, and numbers are decimal. Assumes nothing.
+-- The line that `why` prints, by what is told, after document 02, A9: it "prints the number, the field's name, its
+-- offset, the value found and the bound or value wanted"; "For need-more it says which length was being waited for. Any
+-- other accepted input prints `ok`". Words have one space between, and numbers are decimal. Assumes nothing.
 use Prim.Native.Nat.{ℕ}
 use mathlib.Core.List.{List, [], _∷_}
 use Rattle.words.specs.Note.{Wanted, number, oneOf}

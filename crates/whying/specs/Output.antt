@@ -1,6 +1,6 @@
--- The whole output of `why` for an input, after document 02, A9: it "reads a line `packet` or `rowset` and then the bytes, at
--- most 65,536, with `list`'s limits and no tables, so 17 can't arise"; "another first line or more bytes `bad input`". It reads in
--- archive mode, as `list` does. Assumes nothing.
+-- The whole output of `why` for an input, after document 02, A9: it "reads a line `packet` or `rowset` and then the
+-- bytes, at most 65,536, with `list`'s limits and no tables, so 17 can't arise"; "another first line or more bytes `bad
+-- input`". It reads in archive mode, as `list` does. Assumes nothing.
 use Prim.Native.Nat.{ℕ, _+_}
 use mathlib.Core.Bool.{Bool, true, false, _&&_}
 use mathlib.Core.List.{List, [], _∷_}

@@ -1,5 +1,6 @@
-// What the program `why` prints, whole, as one function of its input (document 02, A9): one line that says why the packet or
-// rowset behind the first line is refused, what is waited for, or that nothing is wrong. The program over it only reads and writes.
+// What the program `why` prints, whole, as one function of its input (document 02, A9): one line that says why the
+// packet or rowset behind the first line is refused, what is waited for, or that nothing is wrong. The program over it
+// only reads and writes.
 use packet::Mode;
 use why_text::LINE_ROOM;
 use why_text::Line;

@@ -1,4 +1,5 @@
--- `value::walk_value` meets its contract: the checks found something, or what breaks the plain form is kept. Assumes nothing.
+-- `value::walk_value` meets its contract: the checks found something, or what breaks the plain form is kept. Assumes
+-- nothing.
 use Rattle.why_rowset.proofs.WalkLaws.{value-stop, value-lies, value-pass}
 use borrow.Author.Needs.{needs}
 use Rattle.why_rowset.proofs.value.walk_value.Statement.{statement}

@@ -1,4 +1,5 @@
--- `walk::walk_row` meets its contract: the count is not there, is the null mark, is too large, or its values are walked. Assumes nothing.
+-- `walk::walk_row` meets its contract: the count is not there, is the null mark, is too large, or its values are
+-- walked. Assumes nothing.
 use Rattle.why_rowset.proofs.WalkLaws.{row-short, row-null, row-many, row-values}
 use borrow.Author.Needs.{needs}
 use Rattle.why_rowset.proofs.walk.walk_row.Statement.{statement}
