@@ -1,0 +1,5 @@
+-- The promises of a rowset's text, proved.
+pub mod Refusals
+pub mod LimitNumbers
+pub mod Tables
+pub mod Texts

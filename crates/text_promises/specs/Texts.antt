@@ -1,0 +1,75 @@
+-- The promises of document 02's A1, over the statements of `text_size`, `write_text` and `count_text`. Assumes nothing.
+use mathlib.Core.Path.{_≡_}
+use mathlib.Core.List.{List}
+use Prim.Native.Nat.{ℕ, _^_, _<_}
+use lib.ListN.{length, getD, take}
+use Rattle.words.specs.Word.{Bytes}
+use Rattle.places.specs.Place.{Place}
+use Rattle.wire.specs.Content.{Row, rowsIn}
+use Rattle.wire.specs.declared.error.WireError.{WireError}
+use Rattle.wire.specs.declared.error.WireError.the-variants.{Truncated, TooManyRows, TooManyValues, ValueTooLong, RowsetTooLarge, UnknownValueType, TrailingBytes, NoRoom, BadTable}
+use Rattle.wire_check.specs.Statement.{Measures}
+use Rattle.wire_check.specs.declared.size.Measured.{Measured}
+use Rattle.wire_check.specs.declared.size.Measured.the-variants as measured
+use Rattle.wire_write.specs.Statement.{Encodes}
+use Rattle.wire_write.specs.declared.write.Encoded.{Encoded}
+use Rattle.wire_write.specs.declared.write.Encoded.the-variants.{Written, Refused}
+use Rattle.text_form.specs.Form.{IsText, Accepted}
+use Rattle.text_size.specs.Statement.{SizesText}
+use Rattle.text_write.specs.Statement.{WritesText}
+use Rattle.text_walk.specs.Tables.{allCells, areaBytes}
+use Rattle.text_walk.specs.Statement.{Counts}
+use Rattle.text_walk.specs.declared.error.TextError.the-variants.{BadText}
+use Rattle.text_walk.specs.declared.walk.Walked.{Walked}
+use Rattle.text_walk.specs.declared.walk.Walked.the-variants.{Counted, Stopped}
+
+-- limits aside, the walk takes exactly the form: what is counted is the text of rows with these counts, and what 19 refuses is the
+-- text of no rows
+abbrev pub TextAcceptsExactly : Type 0
+TextAcceptsExactly =
+    (s : List ℕ) (r : Walked) → Counts s r
+    → ((n m k : ℕ) → r ≡ Counted n m k → (rows : List Row) × IsText s rows × (length rows ≡ n) × (length (allCells rows) ≡ m) × (length (areaBytes rows) ≡ k))
+    × ((place : ℕ) → r ≡ Stopped (BadText place) → Accepted s → ⊥)
+
+-- "the first byte that no continuation could mend, or at its length": some text of the form begins with the bytes before the
+-- place, and none with these and the byte at it
+abbrev pub TextPlace : Type 0
+TextPlace = (s : List ℕ) (r : Walked) → Counts s r → (place : ℕ) → r ≡ Stopped (BadText place) → Place Accepted s place
+
+-- no text is that of two lists of rows
+abbrev pub TextOnce : Type 0
+TextOnce = (s : List ℕ) (rows rows′ : List Row) → IsText s rows → IsText s rows′ → rows ≡ rows′
+
+-- "Writing text refuses as the rowset writer does": both sizes refuse alike
+abbrev pub SizesRefuseAlike : Type 0
+SizesRefuseAlike =
+    (area rows values : List ℕ) (r r₀ : Measured) → SizesText area rows values r → Measures area rows values r₀
+    → (refusal : WireError) → (r ≡ measured.Refused refusal → r₀ ≡ measured.Refused refusal) × (r₀ ≡ measured.Refused refusal → r ≡ measured.Refused refusal)
+
+-- any refusal but 17
+abbrev pub NotForRoom : WireError → Type 0
+NotForRoom (Truncated offset needed) = Unit {0}
+NotForRoom (TooManyRows count) = Unit {0}
+NotForRoom (TooManyValues row count) = Unit {0}
+NotForRoom (ValueTooLong n) = Unit {0}
+NotForRoom (RowsetTooLarge size) = Unit {0}
+NotForRoom (UnknownValueType code) = Unit {0}
+NotForRoom (TrailingBytes n) = Unit {0}
+NotForRoom (NoRoom short) = ⊥
+NotForRoom (BadTable rule position) = Unit {0}
+
+-- and so do both writers, 17 apart, into outputs of any size
+abbrev pub WritersRefuseAlike : Type 0
+WritersRefuseAlike =
+    (area rows values before after before₀ after₀ : List ℕ) (r r₀ : Encoded) → WritesText area rows values before r after → Encodes area rows values before₀ r₀ after₀
+    → (refusal : WireError) → NotForRoom refusal → (r ≡ Refused refusal → r₀ ≡ Refused refusal) × (r₀ ≡ Refused refusal → r ≡ Refused refusal)
+
+-- each word of a table is one of 64 bits
+abbrev pub Words : List ℕ → Type 0
+Words values = (i : ℕ) → getD values i 0 < 2 ^ 64
+
+-- what was written is the text of the tables' rows, null and empty ones in their places
+abbrev pub WrittenIsText : Type 0
+WrittenIsText =
+    (area rows values before after : List ℕ) (n : ℕ) → Bytes area → Words values → WritesText area rows values before (Written n) after
+    → IsText (take n after) (rowsIn area rows values)

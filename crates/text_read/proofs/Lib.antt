@@ -1,0 +1,4 @@
+-- The laws of the second walk over a text.
+pub mod AheadLaws
+pub mod ReadLaws
+pub mod FillLaws
