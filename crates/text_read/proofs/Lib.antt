@@ -2,3 +2,4 @@
 pub mod AheadLaws
 pub mod ReadLaws
 pub mod FillLaws
+pub mod CopyLaws
