@@ -3,3 +3,6 @@ pub mod AheadLaws
 pub mod ReadLaws
 pub mod FillLaws
 pub mod CopyLaws
+pub mod ValueLaws
+pub mod LineLaws
+pub mod TextLaws

@@ -175,12 +175,15 @@ fn read_payload(text: &[u8], at: usize, kind: u64, area: &mut [u8], used: usize)
             fourth: 0,
             fifth: 0,
         },
-        Kind::Scalar => Payload {
-            next: at + 16,
-            used,
-            fourth: read_word(text, at, kind),
-            fifth: 0,
-        },
+        Kind::Scalar => {
+            let word = read_word(text, at, kind);
+            Payload {
+                next: at + 16,
+                used,
+                fourth: word,
+                fifth: 0,
+            }
+        }
         Kind::Blob => {
             let copied = copy_units(text, at, area, used);
             Payload {
