@@ -1,4 +1,2 @@
--- Theorems of the face: what the flattened answers have in common, and one result for each statement.
-pub mod OutcomeLaws
+-- One result for each statement of an exported function: what the crates of such functions share, and the version's.
 pub mod Unique
-pub mod VersionUnique

@@ -1,3 +1,2 @@
--- What each exported function promises.
-pub mod Statement
+-- What the interface's version is.
 pub mod Version

@@ -1,9 +1,13 @@
-// The static library's face: a C function over each public operation, on numbers and lent slices. What a function answers is a
-// struct of words: whether it accepts, document 01's number, how many bytes, and the values. ../face.h declares them for C.
-pub mod checksums;
-pub mod errors;
-pub mod ids;
-pub mod notes;
-pub mod packets;
-pub mod rowsets;
-pub mod version;
+// The static library's interface by its version, in the name of a function: a caller that was made for another version does not
+// link. ../face.h declares all exported functions for C; they stand in the crates `face_checksums`, `face_ids`, `face_packets`,
+// `face_rowsets`, `face_notes` and `face_errors`. What one answers is a struct of words: whether it accepts, document 01's number,
+// how many bytes, and the values.
+ghost use Rattle.face.specs.Version.{InterfaceIs};
+
+// Answers the version of this interface, which is also the number in its name.
+#[no_mangle]
+pub extern "C" fn cablefinch_face_5() -> u64
+    ensures { λ r. ⌜ InterfaceIs r ⌝ }
+{
+    5
+}

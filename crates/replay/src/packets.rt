@@ -13,18 +13,18 @@ use crate::run::id_of;
 use crate::run::say_id;
 use crate::run::truth;
 use crate::say;
-use face::packets::cablefinch_contains;
-use face::packets::cablefinch_decode;
-use face::packets::cablefinch_decode_with;
-use face::packets::cablefinch_encode;
-use face::packets::cablefinch_encoded_size;
-use face::packets::cablefinch_part;
-use face::packets::cablefinch_part_checksum;
-use face::packets::cablefinch_validate;
+use face_packets::cablefinch_contains;
+use face_packets::cablefinch_decode;
+use face_packets::cablefinch_decode_with;
+use face_packets::cablefinch_encode;
+use face_packets::cablefinch_encoded_size;
+use face_packets::cablefinch_part;
+use face_packets::cablefinch_part_checksum;
+use face_packets::cablefinch_validate;
 use packet::ENTRY_WORDS;
 use words::outcome::Outcome;
 
-// The modes by the numbers of `face`.
+// The modes by the numbers of the exported functions.
 const ARCHIVE: u64 = 0;
 
 const LIVE: u64 = 1;

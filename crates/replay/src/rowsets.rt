@@ -13,11 +13,11 @@ use crate::read::word;
 use crate::read::words_into;
 use crate::run::truth;
 use crate::say;
-use face::rowsets::cablefinch_decode_rowset;
-use face::rowsets::cablefinch_encode_rowset;
-use face::rowsets::cablefinch_is_plain;
-use face::rowsets::cablefinch_read_value;
-use face::rowsets::cablefinch_rowset_size;
+use face_rowsets::cablefinch_decode_rowset;
+use face_rowsets::cablefinch_encode_rowset;
+use face_rowsets::cablefinch_is_plain;
+use face_rowsets::cablefinch_read_value;
+use face_rowsets::cablefinch_rowset_size;
 use wire::layout::ENTRY_WORDS;
 use words::outcome::Outcome;
 

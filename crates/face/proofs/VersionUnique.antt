@@ -1,7 +1,0 @@
--- Two results that meet the version's statement are equal. Assumes nothing.
-use Rattle.words.specs.Statement.{OneResult}
-use Rattle.words.proofs.Unique.{equal-to-one}
-use Rattle.face.specs.Version.{InterfaceIs}
-
-pub cablefinch-face-5-unique : OneResult InterfaceIs
-cablefinch-face-5-unique = equal-to-one _

@@ -1,0 +1,56 @@
+// Rowsets: read into lent row and value tables, written from them; one value by itself; the plain form; the bytes behind a
+// value table packed.
+ghost use Rattle.wire_read.specs.Statement.{TellsPlain};
+ghost use Rattle.face_rowsets.specs.Statement.{DecodesRowset, EncodesRowset, MeasuresRowset, ReadsValue, PacksArea};
+use words::outcome::Outcome;
+
+#[no_mangle]
+pub extern "C" fn cablefinch_decode_rowset(
+    input: &[u8],
+    rows: &mut [u64],
+    values: &mut [u64],
+) -> Outcome
+    ensures { λ r. ⌜ DecodesRowset (now (input .entry)) (now (rows .entry)) (now (values .entry)) r (now (rows .exit)) (now (values .exit)) ⌝ }
+{
+    wire_read::rowset::outcome(wire_read::rowset::decode_rowset(input, rows, values))
+}
+
+#[no_mangle]
+pub extern "C" fn cablefinch_encode_rowset(
+    area: &[u8],
+    rows: &[u64],
+    values: &[u64],
+    out: &mut [u8],
+) -> Outcome
+    ensures { λ r. ⌜ EncodesRowset (now (area .entry)) (now (rows .entry)) (now (values .entry)) (now (out .entry)) r (now (out .exit)) ⌝ }
+{
+    wire_write::write::outcome(wire_write::write::encode_rowset(area, rows, values, out))
+}
+
+#[no_mangle]
+pub extern "C" fn cablefinch_rowset_size(area: &[u8], rows: &[u64], values: &[u64]) -> Outcome
+    ensures { λ r. ⌜ MeasuresRowset (now (area .entry)) (now (rows .entry)) (now (values .entry)) r ⌝ }
+{
+    wire_check::size::outcome(wire_check::size::encoded_size(area, rows, values))
+}
+
+#[no_mangle]
+pub extern "C" fn cablefinch_read_value(input: &[u8], at: usize) -> Outcome
+    ensures { λ r. ⌜ ReadsValue (now (input .entry)) at r ⌝ }
+{
+    wire_value::value::outcome(wire_value::value::read_value(input, at))
+}
+
+#[no_mangle]
+pub extern "C" fn cablefinch_is_plain(input: &[u8]) -> bool
+    ensures { λ r. ⌜ TellsPlain (now (input .entry)) r ⌝ }
+{
+    wire_read::plain::is_plain(input)
+}
+
+#[no_mangle]
+pub extern "C" fn cablefinch_pack(area: &[u8], values: &mut [u64], out: &mut [u8]) -> Outcome
+    ensures { λ r. ⌜ PacksArea (now (area .entry)) (now (values .entry)) (now (out .entry)) r (now (values .exit)) (now (out .exit)) ⌝ }
+{
+    pack_answer::answer::outcome(pack::pack(area, values, out))
+}
