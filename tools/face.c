@@ -33,7 +33,7 @@ int main(void) {
     uint64_t term[CABLEFINCH_VALUE_WORDS] = {7, CABLEFINCH_STRING, 0, 1, 2};
     uint8_t packed[2] = {0};
 
-    expect("version", cablefinch_face_5() == CABLEFINCH_FACE);
+    expect("version", cablefinch_face_6() == CABLEFINCH_FACE);
     expect("checksum", cablefinch_checksum(NULL, 0) == 0);
     expect("update", cablefinch_update(7, NULL, 0) == 7);
     expect("finish", cablefinch_finish(0) == 0);

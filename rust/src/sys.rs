@@ -31,7 +31,7 @@ pub(crate) const MORE: u64 = 1;
 mod raw {
     use super::Outcome;
     unsafe extern "C" {
-        pub(super) fn cablefinch_face_5() -> u64;
+        pub(super) fn cablefinch_face_6() -> u64;
         pub(super) fn cablefinch_checksum(bytes: *const u8, n: usize) -> u64;
         pub(super) fn cablefinch_update(register: u64, bytes: *const u8, n: usize) -> u64;
         pub(super) fn cablefinch_finish(register: u64) -> u64;
@@ -91,7 +91,7 @@ macro_rules! ask {
 /// Named by every program over this crate, called by none: an archive of another version of the
 /// interface lacks the function, so that the program does not link.
 #[used]
-static VERSION: unsafe extern "C" fn() -> u64 = raw::cablefinch_face_5;
+static VERSION: unsafe extern "C" fn() -> u64 = raw::cablefinch_face_6;
 
 pub(crate) fn checksum(bytes: &[u8]) -> u64 {
     // SAFETY: a slice's pointer and length, only read.
