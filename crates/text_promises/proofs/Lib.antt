@@ -1,5 +1,4 @@
 -- The promises of a rowset's text, proved.
 pub mod Refusals
-pub mod LimitNumbers
 pub mod Tables
 pub mod Texts

@@ -1,4 +1,4 @@
--- The laws of the second walk over a text.
+-- The laws of the second walk over a text, and of what both walks come to.
 pub mod AheadLaws
 pub mod ReadLaws
 pub mod FillLaws
@@ -6,3 +6,6 @@ pub mod CopyLaws
 pub mod ValueLaws
 pub mod LineLaws
 pub mod TextLaws
+pub mod LimitNumbers
+pub mod AnswerLaws
+pub mod Unique

@@ -40,7 +40,7 @@ pub text-back : (e : TextError) → textOf (textPaper e) ≡ e
 text-back (BadText place) = refl
 text-back (Limit e) = limit-back e ∙ ap Limit (paper-back e)
 
-abbrev walkedOf : Answer → Walked
+abbrev pub walkedOf : Answer → Walked
 walkedOf (accepted n fields) = Counted (getD fields 0 0) (getD fields 1 0) n
 walkedOf more = Stopped (textOf more)
 walkedOf (refused number values consumed) = Stopped (textOf (refused number values consumed))
@@ -57,7 +57,7 @@ stopped-back (Limit (TrailingBytes n)) = refl
 stopped-back (Limit (NoRoom short)) = refl
 stopped-back (Limit (BadTable rule position)) = refl
 
-walked-back : (r : Walked) → walkedOf (walkedPaper r) ≡ r
+pub walked-back : (r : Walked) → walkedOf (walkedPaper r) ≡ r
 walked-back (Counted rows values bytes) = refl
 walked-back (Stopped e) = stopped-back e ∙ ap Stopped (text-back e)
 
