@@ -109,13 +109,19 @@ module _ (s : List ℕ) (start first : ℕ) (area₀ : List ℕ) (has : HasBlob 
     pub plain-room : used < length area
     unfolding bytesSoFar
     plain-room =
-        omega (arith, within-end s (i + 1) _ (has .5) (reads.blob-plain s i (has .0) (has .1) (has .2) (has .3) (has .4) (mine .0) (has .5) (mine .4) other tabbed fed) .bytes-within,
-          length-append (mine .0) (getD s i 0 ∷ []), mine .2, has .7 .0, has .7 .1, same-area)
+        omega (
+          arith,
+          within-end s (i + 1) _ (has .5) (reads.blob-plain s i (has .0) (has .1) (has .2) (has .3) (has .4) (mine .0) (has .5) (mine .4) other tabbed fed) .bytes-within,
+          length-append (mine .0) (getD s i 0 ∷ []),
+          mine .2,
+          has .7 .0,
+          has .7 .1,
+          same-area,
+        )
 
     pub plain-more : UnitsLeft s start first area₀ (set area used (getD s i 0)) (i + 1) (used + 1)
     plain-more rows cells id aggregate type final here =
-        let all = so-far rows cells id aggregate type final here in
-        (
+        let all = so-far rows cells id aggregate type final here in (
           all .0 ++ getD s i 0 ∷ [],
           omega (arith, all .1),
           longer (all .0) (getD s i 0) first used (all .2),

@@ -101,7 +101,7 @@ unfolding entriesFrom blobs
 values-begin s start first before values₀ area₀ rows final here = ([], omega arith, (λ _. refl), omega arith, omega arith, refl, refl, refl, here)
 
 module _ (s : List ℕ) (start : ℕ) (values₀ : List ℕ) (first : ℕ) (area₀ : List ℕ) (before : ℕ) (has : HasValues s start values₀ first area₀ before)
-  (values′ area : List ℕ) (i k used count : ℕ) (so-far : ValuesLeft s start first before values₀ area₀ values′ area i k used count) where
+    (values′ area : List ℕ) (i k used count : ℕ) (so-far : ValuesLeft s start first before values₀ area₀ values′ area i k used count) where
   mine : (cells : List Cell) × (start ≤ i) × (length cells ≡ 0 → i ≡ start) × (k ≡ first + 5 * length cells) × (used ≡ before + length (blobs cells)) × (count ≡ length cells)
       × (values′ ≡ sets values₀ first (entriesFrom before cells)) × (area ≡ sets area₀ before (blobs cells))
       × (from s i (at (has .0 .1 .0) cells fresh) ≡ read (has .0 .1 .1))
@@ -205,8 +205,7 @@ module _ (s : List ℕ) (start : ℕ) (values₀ : List ℕ) (first : ℕ) (area
     pub values-more-left : r .last ≡ false → ValuesLeft s start first before values₀ area₀ values″ area″ (r .next) (k + 5) (r .used) (count + 1)
     values-more-left goes rows final here =
         let c = new rows final here in
-        let cells = old rows final here in
-        (
+        let cells = old rows final here in (
           cells .0 ++ c .0 ∷ [],
           omega (arith, cells .1, c .1),
           (λ none. absurd (omega (arith, none, length-append (cells .0) (c .0 ∷ [])))),
@@ -221,8 +220,7 @@ module _ (s : List ℕ) (start : ℕ) (values₀ : List ℕ) (first : ℕ) (area
     pub values-end : r .last ≡ true → FillsLine s start first before values₀ area₀ values″ area″ (record { next = r .next; k = k + 5; used = r .used; word = count + 1 })
     values-end ends rows final here =
         let c = new rows final here in
-        let cells = old rows final here in
-        (
+        let cells = old rows final here in (
           values (cells .0 ++ c .0 ∷ []),
           omega (arith, cells .1, c .1),
           c .2,

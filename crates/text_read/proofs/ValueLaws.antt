@@ -119,8 +119,7 @@ module _ (s : List ℕ) (i n : ℕ) (values : List ℕ) (k : ℕ) (area : List �
       value-fills rows cells final here =
           let all = told rows cells final here in
           let rest = stores rows cells (h .id) (h .aggregate) final (all .2) in
-          let c : Cell = cellOf (h .id) (h .aggregate) (h .kind) (rest .0) in
-          (
+          let c : Cell = cellOf (h .id) (h .aggregate) (h .kind) (rest .0) in (
             c,
             omega (arith, all .0, rest .1),
             omega (arith, rest .2 .0),

@@ -197,7 +197,15 @@ fn read_payload(text: &[u8], at: usize, kind: u64, area: &mut [u8], used: usize)
 }
 
 // A value whose id begins with `first`, and the byte behind it: its entry to the word `k` of the table on.
-fn fill_value(text: &[u8], at: usize, first: u64, values: &mut [u64], k: usize, area: &mut [u8], used: usize) -> Value
+fn fill_value(
+    text: &[u8],
+    at: usize,
+    first: u64,
+    values: &mut [u64],
+    k: usize,
+    area: &mut [u8],
+    used: usize,
+) -> Value
     requires { ⌜ HasValue (now text) at first (now values) k (now area) used ⌝ }
     ensures { λ r. ⌜ FillsValue (now (text .entry)) at first k used (now (values .entry)) (now (area .entry)) (now (values .exit)) (now (area .exit)) r ⌝ }
 {
@@ -217,7 +225,14 @@ fn fill_value(text: &[u8], at: usize, first: u64, values: &mut [u64], k: usize, 
 }
 
 // The values of a line whose first byte is a digit.
-fn fill_values(text: &[u8], start: usize, values: &mut [u64], first: usize, area: &mut [u8], before: usize) -> Line
+fn fill_values(
+    text: &[u8],
+    start: usize,
+    values: &mut [u64],
+    first: usize,
+    area: &mut [u8],
+    before: usize,
+) -> Line
     requires { ⌜ HasValues (now text) start (now values) first (now area) before ⌝ }
     ensures { λ r. ⌜ FillsLine (now (text .entry)) start first before (now (values .entry)) (now (area .entry)) (now (values .exit)) (now (area .exit)) r ⌝ }
 {
@@ -226,7 +241,15 @@ fn fill_values(text: &[u8], start: usize, values: &mut [u64], first: usize, area
     let mut used = before;
     let mut count: u64 = 0;
     while at < text.len() {
-        let value = fill_value(text, at + 1, (text[at] - b'0') as u64, values, k, area, used);
+        let value = fill_value(
+            text,
+            at + 1,
+            (text[at] - b'0') as u64,
+            values,
+            k,
+            area,
+            used,
+        );
         at = value.next;
         k += ENTRY_WORDS;
         used = value.used;
@@ -249,7 +272,14 @@ fn fill_values(text: &[u8], start: usize, values: &mut [u64], first: usize, area
 }
 
 // One line: that of an empty row, of a null row, or the values of a row.
-fn fill_line(text: &[u8], at: usize, values: &mut [u64], k: usize, area: &mut [u8], used: usize) -> Line
+fn fill_line(
+    text: &[u8],
+    at: usize,
+    values: &mut [u64],
+    k: usize,
+    area: &mut [u8],
+    used: usize,
+) -> Line
     requires { ⌜ HasLine (now text) at (now values) k (now area) used ⌝ }
     ensures { λ r. ⌜ FillsLine (now (text .entry)) at k used (now (values .entry)) (now (area .entry)) (now (values .exit)) (now (area .exit)) r ⌝ }
 {
