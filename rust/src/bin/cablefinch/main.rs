@@ -15,6 +15,7 @@ mod plain;
 mod screen;
 mod shown;
 mod sum;
+mod text;
 mod words;
 mod yson;
 
