@@ -64,7 +64,13 @@ pub fn back(arguments: &Arguments, screen: &mut Screen) -> Result<Verdict, Stop>
             ""
         };
         let shown = shown::line(&text, place);
-        let why = format!("it is no rowset's text, refused by {number} at byte {place}");
+        // Trimming moves bytes, but not lines and columns.
+        let at = if trimming {
+            String::new()
+        } else {
+            format!(" at byte {place}")
+        };
+        let why = format!("it is no rowset's text, refused by {number}{at}");
         screen.tell(input.told(), &format!("{why}\n    {error}{hint}\n{shown}"))?;
         Ok(Verdict::Refused)
     })
