@@ -693,6 +693,147 @@ fn looked_at_rows(rowset: &rowsets_of_crate::Rowset<'_>) -> u64 {
     each.fold(0, u64::wrapping_add)
 }
 
+/// A rowset of 5 values a row, its tables over its bytes, and its text.
+struct Listed {
+    wire: Vec<u8>,
+    rows: Vec<u64>,
+    values: Vec<u64>,
+    text: Vec<u8>,
+}
+
+impl Listed {
+    fn of(count: usize) -> Self {
+        let wire = wire::encode_rowset(&rows(count, |_| false))
+            .unwrap()
+            .to_vec();
+        let (mut rows, mut values) = (vec![0u64; count], vec![0u64; VALUE * 5 * count]);
+        let outcome = face::decode_rowset(&wire, &mut rows, &mut values);
+        assert!(outcome.kind == face::ACCEPTED);
+        let size = face::text_size(&wire, &rows, &values);
+        let mut text = vec![0u8; size.count as usize];
+        let outcome = face::write_text(&wire, &rows, &values, &mut text);
+        assert!(outcome.kind == face::ACCEPTED && outcome.count == size.count);
+        Self {
+            wire,
+            rows,
+            values,
+            text,
+        }
+    }
+
+    /// How many bytes of text there are for a byte of the rowset.
+    fn ratio(&self) -> f64 {
+        self.text.len() as f64 / self.wire.len() as f64
+    }
+
+    /// Nanoseconds of one call that encodes the rowset, and of one that writes its text.
+    fn written(&self, out: &mut [u8]) -> (f64, f64) {
+        let (area, rows, values) = (&self.wire, &self.rows, &self.values);
+        let encoded = once(|| face::encode_rowset(area, rows, values, out));
+        (encoded, once(|| face::write_text(area, rows, values, out)))
+    }
+
+    /// Nanoseconds of one call that decodes the rowset, and of one that reads its text.
+    fn read(&self, rows: &mut [u64], values: &mut [u64], area: &mut [u8]) -> (f64, f64) {
+        let decoded = once(|| face::decode_rowset(&self.wire, rows, values));
+        (
+            decoded,
+            once(|| face::read_text(&self.text, rows, values, area)),
+        )
+    }
+}
+
+/// Nanoseconds of one call, which must accept.
+fn once(call: impl FnOnce() -> face::Outcome) -> f64 {
+    let start = clock();
+    let outcome = black_box(call());
+    let taken = (clock() - start) as f64;
+    assert!(outcome.kind == face::ACCEPTED);
+    taken
+}
+
+/// The least of as many rounds, of each of two calls that are taken in turn.
+fn least(mut round: impl FnMut() -> (f64, f64)) -> (f64, f64) {
+    (0..2 * ROUNDS)
+        .map(|_| round())
+        .fold((f64::INFINITY, f64::INFINITY), |(a, b), (c, d)| {
+            (a.min(c), b.min(d))
+        })
+}
+
+/// Tab-separated text, which the Rust has not. In its place stands 4 times what the port takes for as many
+/// bytes of the rowset itself, and then 2.5 times what the text of half the rows takes.
+fn texts(table: &mut Table) {
+    const COUNT: usize = 100_000;
+    let name = "text of 100,000 rows of 5 values";
+    let beside = "beside 4 times the rowset, byte for byte";
+    let wanted = |name: &str| {
+        table.wanted.is_empty() || table.wanted.iter().any(|word| name.contains(word.as_str()))
+    };
+    // The samples are large, so they are made only where a line is wanted.
+    let names = ["written", "read"].map(|verb| {
+        (
+            format!("{name} {verb}, {beside}"),
+            format!("text of 200,000 rows of 5 values {verb}, beside 2.5 times 100,000"),
+        )
+    });
+    if !names.iter().any(|(a, b)| wanted(a) || wanted(b)) {
+        return;
+    }
+    let (half, whole) = (Listed::of(COUNT), Listed::of(2 * COUNT));
+    let mut out = vec![0u8; whole.text.len()];
+    let mut rows = vec![0u64; 2 * COUNT];
+    let mut values = vec![0u64; VALUE * 10 * COUNT];
+    let mut area = vec![0u8; whole.text.len()];
+    let [(written, twice_written), (read, twice_read)] = names;
+    let size = half.text.len();
+    table.line(&written, size, Some(1.0), || {
+        let rowset = rowsets_of_crate::decode_rowset(&half.wire).unwrap();
+        assert!(rowset.write_text().unwrap() == half.text);
+        let (encoded, port) = least(|| half.written(&mut out));
+        Times {
+            rust: 4.0 * half.ratio() * encoded,
+            port,
+            wrapped: time(1, || (), |()| rowset.write_text().unwrap()),
+        }
+    });
+    table.line(&read, size, Some(1.0), || {
+        let (decoded, port) = least(|| half.read(&mut rows, &mut values, &mut area));
+        assert!(rows[..COUNT] == half.rows);
+        Times {
+            rust: 4.0 * half.ratio() * decoded,
+            port,
+            wrapped: time(
+                1,
+                || (),
+                |()| cablefinch::text::read_text(&half.text).unwrap(),
+            ),
+        }
+    });
+    let size = whole.text.len();
+    table.line(&twice_written, size, Some(1.0), || {
+        let (once, twice) = least(|| (half.written(&mut out).1, whole.written(&mut out).1));
+        Times {
+            rust: 2.5 * once,
+            port: twice,
+            wrapped: f64::NAN,
+        }
+    });
+    table.line(&twice_read, size, Some(1.0), || {
+        let (once, twice) = least(|| {
+            (
+                half.read(&mut rows, &mut values, &mut area).1,
+                whole.read(&mut rows, &mut values, &mut area).1,
+            )
+        });
+        Times {
+            rust: 2.5 * once,
+            port: twice,
+            wrapped: f64::NAN,
+        }
+    });
+}
+
 fn guids(table: &mut Table) {
     let id = id();
     let text = id.to_string();
@@ -1054,6 +1195,7 @@ fn main() {
     checksums(&mut table);
     packets(&mut table);
     let rowset_rate = rowsets(&mut table);
+    texts(&mut table);
     packing(&mut table);
     guids(&mut table);
     notes(&mut table, rowset_rate);
