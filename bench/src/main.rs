@@ -14,6 +14,7 @@ use cablefinch_bytes::bus::packet as packets_over_bytes;
 use oracle::bus::packet::{self, Packet, PacketFlags, PacketType};
 use oracle::guid::Guid;
 use oracle::wire::{self, MaybeRow, UnversionedValue, Value};
+use std::cell::LazyCell;
 use std::ffi::{c_char, c_void};
 use std::hint::black_box;
 use std::io::Write;
@@ -693,6 +694,9 @@ fn looked_at_rows(rowset: &rowsets_of_crate::Rowset<'_>) -> u64 {
     each.fold(0, u64::wrapping_add)
 }
 
+/// The bytes of a line of [`Listed`].
+const LINE: usize = 115;
+
 /// A rowset of 5 values a row, its tables over its bytes, and its text.
 struct Listed {
     wire: Vec<u8>,
@@ -712,7 +716,7 @@ impl Listed {
         let size = face::text_size(&wire, &rows, &values);
         let mut text = vec![0u8; size.count as usize];
         let outcome = face::write_text(&wire, &rows, &values, &mut text);
-        assert!(outcome.kind == face::ACCEPTED && outcome.count == size.count);
+        assert!(outcome.kind == face::ACCEPTED && text.len() == LINE * count);
         Self {
             wire,
             rows,
@@ -734,7 +738,8 @@ impl Listed {
     }
 
     /// Nanoseconds of one call that decodes the rowset, and of one that reads its text.
-    fn read(&self, rows: &mut [u64], values: &mut [u64], area: &mut [u8]) -> (f64, f64) {
+    fn read(&self, lent: &mut Lent) -> (f64, f64) {
+        let Lent { rows, values, area } = lent;
         let decoded = once(|| face::decode_rowset(&self.wire, rows, values));
         (
             decoded,
@@ -761,45 +766,53 @@ fn least(mut round: impl FnMut() -> (f64, f64)) -> (f64, f64) {
         })
 }
 
+/// The tables and the area that a text is read into.
+struct Lent {
+    rows: Vec<u64>,
+    values: Vec<u64>,
+    area: Vec<u8>,
+}
+
+impl Lent {
+    fn of(listed: &Listed) -> Self {
+        Self {
+            rows: vec![0; listed.rows.len()],
+            values: vec![0; listed.values.len()],
+            area: vec![0; listed.text.len()],
+        }
+    }
+}
+
 /// Tab-separated text, which the Rust has not. In its place stands 4 times what the port takes for as many
 /// bytes of the rowset itself, and then 2.5 times what the text of half the rows takes.
 fn texts(table: &mut Table) {
     const COUNT: usize = 100_000;
     let name = "text of 100,000 rows of 5 values";
     let beside = "beside 4 times the rowset, byte for byte";
-    let wanted = |name: &str| {
-        table.wanted.is_empty() || table.wanted.iter().any(|word| name.contains(word.as_str()))
-    };
-    // The samples are large, so they are made only where a line is wanted.
-    let names = ["written", "read"].map(|verb| {
-        (
-            format!("{name} {verb}, {beside}"),
-            format!("text of 200,000 rows of 5 values {verb}, beside 2.5 times 100,000"),
-        )
-    });
-    if !names.iter().any(|(a, b)| wanted(a) || wanted(b)) {
-        return;
-    }
-    let (half, whole) = (Listed::of(COUNT), Listed::of(2 * COUNT));
-    let mut out = vec![0u8; whole.text.len()];
-    let mut rows = vec![0u64; 2 * COUNT];
-    let mut values = vec![0u64; VALUE * 10 * COUNT];
-    let mut area = vec![0u8; whole.text.len()];
-    let [(written, twice_written), (read, twice_read)] = names;
-    let size = half.text.len();
-    table.line(&written, size, Some(1.0), || {
-        let rowset = rowsets_of_crate::decode_rowset(&half.wire).unwrap();
-        assert!(rowset.write_text().unwrap() == half.text);
-        let (encoded, port) = least(|| half.written(&mut out));
-        Times {
-            rust: 4.0 * half.ratio() * encoded,
-            port,
-            wrapped: time(1, || (), |()| rowset.write_text().unwrap()),
-        }
-    });
-    table.line(&read, size, Some(1.0), || {
-        let (decoded, port) = least(|| half.read(&mut rows, &mut values, &mut area));
-        assert!(rows[..COUNT] == half.rows);
+    // Made where a line wants them.
+    let half = LazyCell::new(|| Listed::of(COUNT));
+    let whole = LazyCell::new(|| Listed::of(2 * COUNT));
+    let size = LINE * COUNT;
+    table.line(
+        &format!("{name} written, {beside}"),
+        size,
+        Some(1.0),
+        || {
+            let rowset = rowsets_of_crate::decode_rowset(&half.wire).unwrap();
+            assert!(rowset.write_text().unwrap() == half.text);
+            let mut out = half.text.clone();
+            let (encoded, port) = least(|| half.written(&mut out));
+            Times {
+                rust: 4.0 * half.ratio() * encoded,
+                port,
+                wrapped: time(1, || (), |()| rowset.write_text().unwrap()),
+            }
+        },
+    );
+    table.line(&format!("{name} read, {beside}"), size, Some(1.0), || {
+        let mut lent = Lent::of(&half);
+        let (decoded, port) = least(|| half.read(&mut lent));
+        assert!(lent.rows == half.rows);
         Times {
             rust: 4.0 * half.ratio() * decoded,
             port,
@@ -810,28 +823,33 @@ fn texts(table: &mut Table) {
             ),
         }
     });
-    let size = whole.text.len();
-    table.line(&twice_written, size, Some(1.0), || {
-        let (once, twice) = least(|| (half.written(&mut out).1, whole.written(&mut out).1));
-        Times {
-            rust: 2.5 * once,
-            port: twice,
-            wrapped: f64::NAN,
-        }
-    });
-    table.line(&twice_read, size, Some(1.0), || {
-        let (once, twice) = least(|| {
-            (
-                half.read(&mut rows, &mut values, &mut area).1,
-                whole.read(&mut rows, &mut values, &mut area).1,
-            )
-        });
-        Times {
-            rust: 2.5 * once,
-            port: twice,
-            wrapped: f64::NAN,
-        }
-    });
+    let name = "text of 200,000 rows of 5 values";
+    let beside = "beside 2.5 times 100,000";
+    let growth = |(once, twice): (f64, f64)| Times {
+        rust: 2.5 * once,
+        port: twice,
+        wrapped: f64::NAN,
+    };
+    table.line(
+        &format!("{name} written, {beside}"),
+        2 * size,
+        Some(1.0),
+        || {
+            let mut out = whole.text.clone();
+            growth(least(|| {
+                (half.written(&mut out).1, whole.written(&mut out).1)
+            }))
+        },
+    );
+    table.line(
+        &format!("{name} read, {beside}"),
+        2 * size,
+        Some(1.0),
+        || {
+            let (mut lent, mut more) = (Lent::of(&half), Lent::of(&whole));
+            growth(least(|| (half.read(&mut lent).1, whole.read(&mut more).1)))
+        },
+    );
 }
 
 fn guids(table: &mut Table) {
