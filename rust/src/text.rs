@@ -40,6 +40,7 @@
 #[cfg(test)]
 mod tests;
 
+use crate::shown::Text;
 use crate::sys::{self, Outcome};
 use crate::table::{self, count};
 use crate::wire::{
@@ -224,8 +225,9 @@ pub struct BadText {
     column: usize,
     /// How many tabs stand before the place in its line.
     tabs: usize,
-    /// The byte at the place, none at the text's end.
-    found: Option<u8>,
+    /// What stands at the place: the bytes of a character, or one that begins none; and how many.
+    found: [u8; 4],
+    length: usize,
     wanted: Wanted,
 }
 
@@ -310,12 +312,15 @@ impl BadText {
             | (Wanted::Value, [b'\t' | b'\n', ..]) => Wanted::NoTab,
             (wanted, _) => wanted,
         };
+        let (mut found, character) = ([0; 4], first_character(rest));
+        found[..character.len()].copy_from_slice(character);
         Self {
             place,
             line: feeds(before) + 1,
             column: line.len() + 1,
             tabs: line.iter().filter(|&&byte| byte == b'\t').count(),
-            found: rest.first().copied(),
+            found,
+            length: character.len(),
             wanted,
         }
     }
@@ -330,26 +335,40 @@ impl BadText {
         format!("{}{}", String::from_utf8_lossy(&letters), self.line)
     }
 
-    /// What stands at the place, in a word.
-    fn found(&self) -> String {
-        match self.found {
-            None => "its end".to_string(),
-            Some(b' ') => "a space".to_string(),
-            Some(b'\t') => "a tab".to_string(),
-            Some(b'\n') => "the line's end".to_string(),
-            Some(b'\r') => "a carriage return".to_string(),
-            Some(byte @ 0x21..=0x7e) => format!("`{}`", char::from(byte)),
-            Some(byte) => format!("the byte 0x{byte:02x}"),
+    /// What stands at the place.
+    fn found(&self) -> &[u8] {
+        &self.found[..self.length]
+    }
+
+    /// The same in words.
+    fn told(&self) -> String {
+        match self.found() {
+            [] => "its end".to_string(),
+            b" " => "a space".to_string(),
+            b"\t" => "a tab".to_string(),
+            b"\n" => "the line's end".to_string(),
+            b"\r" => "a carriage return".to_string(),
+            &[byte] if !byte.is_ascii_graphic() => format!("the byte 0x{byte:02x}"),
+            character => format!("`{}`", Text(character)),
         }
     }
 }
 
+/// The bytes of the character that bytes begin with, or their first one where they begin with none.
+fn first_character(bytes: &[u8]) -> &[u8] {
+    let front = &bytes[..bytes.len().min(4)];
+    let chunk = front.utf8_chunks().next();
+    let character = chunk.and_then(|chunk| chunk.valid().chars().next());
+    let length = character.map_or(1, char::len_utf8);
+    &front[..length.min(front.len())]
+}
+
 impl fmt::Display for BadText {
     fn fmt(&self, formatter: &mut fmt::Formatter<'_>) -> fmt::Result {
-        let (line, column, cell, found) = (self.line, self.column, self.cell(), self.found());
+        let (line, column, cell, told) = (self.line, self.column, self.cell(), self.told());
         write!(
             formatter,
-            "line {line}, column {column}, cell {cell}: {found}; "
+            "line {line}, column {column}, cell {cell}: {told}; "
         )?;
         formatter.write_str(match self.wanted {
             Wanted::More => "every line ends in a line feed, the last one too",
@@ -374,8 +393,9 @@ impl fmt::Display for BadText {
                  itself; all other bytes stand for themselves"
             }
             Wanted::Byte => {
-                let byte = self.found.unwrap_or_default();
-                return write!(formatter, "write it as %{byte:02X}");
+                formatter.write_str("write it as ")?;
+                let mut bytes = self.found().iter();
+                return bytes.try_for_each(|byte| write!(formatter, "%{byte:02X}"));
             }
         })
     }

@@ -266,6 +266,32 @@ fn rowsets_as_text_and_back() {
     check(asked_with(&["text", "-"], &[0; 8]), 0, "", "");
 }
 
+/// A spreadsheet loses some rows and cells without a word, so the command has some.
+#[test]
+fn what_a_spreadsheet_would_lose_is_told() {
+    let told = |text: &[u8], lost: &str| {
+        let bytes = rowset_of(&["rowset", "-"], text);
+        let words =
+            format!("cablefinch: standard input: it is written, but not for a spreadsheet\n{lost}");
+        let text = String::from_utf8_lossy(text);
+        check(asked_with(&["text", "-"], &bytes), 0, &text, &words);
+    };
+    let empty = "    its last line is empty, and a spreadsheet saves no empty lines at the end\n";
+    told(b"0:n\n\n", empty);
+    let long = [&b"#\n0:n\t1:s"[..], &b"a".repeat(32_765), b"\n\n"].concat();
+    told(
+        &long,
+        &format!(
+            "    line 2 has a value of 32768 characters, and a cell has 32767 in some spreadsheets, 65535 in \
+             others: it is cut there\n{empty}"
+        ),
+    );
+    told(
+        &b"#\n".repeat(1_048_577),
+        "    it has 1048577 lines, and a sheet has 1048576: the others are lost there\n",
+    );
+}
+
 #[test]
 fn bytes_that_are_no_rowset_have_no_text() {
     check(

@@ -181,7 +181,23 @@ fn what_a_person_reads() {
     );
     told(
         "#\n0:sZähne\n".as_bytes(),
-        "line 2, column 5, cell A2: the byte 0xc3; write it as %C3",
+        "line 2, column 5, cell A2: `ä`; write it as %C3%A4",
+    );
+    told(
+        "0:sé\u{202e}\n".as_bytes(),
+        "line 1, column 4, cell A1: `é`; write it as %C3%A9",
+    );
+    told(
+        "0:s\u{202e}\n".as_bytes(),
+        "line 1, column 4, cell A1: `\\u{202e}`; write it as %E2%80%AE",
+    );
+    told(
+        b"0:s\xe2\x80\n",
+        "line 1, column 4, cell A1: the byte 0xe2; write it as %E2",
+    );
+    told(
+        b"0:s\x1b[31m\n",
+        "line 1, column 4, cell A1: the byte 0x1b; write it as %1B",
     );
     told(
         b"0:sa\r\n",
@@ -193,7 +209,7 @@ fn what_a_person_reads() {
     );
     told(
         b"\xef\xbb\xbf0:sa\n",
-        "line 1, column 1, cell A1: the byte 0xef; save it without a byte order mark",
+        "line 1, column 1, cell A1: `\u{feff}`; save it without a byte order mark",
     );
     told(
         b"#\n\"0:sa\"\n",

@@ -12,6 +12,10 @@ use cablefinch::wire::{self, MAX_ROWSET_SIZE, WireError};
 /// longer one is refused long before.
 const MOST: usize = 4 * MAX_ROWSET_SIZE;
 
+/// The lines of a spreadsheet's sheet, and the characters of a cell in the one that has fewest.
+const SHEET_LINES: usize = 1_048_576;
+const CELL_BYTES: usize = 32_767;
+
 /// `cablefinch text FILE`.
 pub fn run(arguments: &Arguments, screen: &mut Screen) -> Result<Verdict, Stop> {
     input::each(arguments, screen, |mut input, screen| {
@@ -19,6 +23,9 @@ pub fn run(arguments: &Arguments, screen: &mut Screen) -> Result<Verdict, Stop> 
         match wire::decode_rowset(&bytes).and_then(|rowset| rowset.write_text()) {
             Ok(text) => {
                 screen.put(&text)?;
+                if let Some(lost) = lost(&text) {
+                    screen.tell(input.told(), &lost)?;
+                }
                 Ok(Verdict::Right)
             }
             Err(error) => {
@@ -96,6 +103,42 @@ fn refused(
         &format!("it is no rowset, refused by {number}\n    {why}"),
     )?;
     Ok(Verdict::Refused)
+}
+
+/// What of a text a spreadsheet would lose without a word, where it would lose something.
+fn lost(text: &[u8]) -> Option<String> {
+    let mut lines = text.split(|&byte| byte == b'\n');
+    // Behind the last line feed stands nothing.
+    lines.next_back();
+    let count = lines.clone().count();
+    let mut lost = Vec::new();
+    if count > SHEET_LINES {
+        lost.push(format!(
+            "it has {count} lines, and a sheet has {SHEET_LINES}: the others are lost there"
+        ));
+    }
+    let long = lines.clone().zip(1..).find_map(|(line, number)| {
+        let mut values = line.split(|&byte| byte == b'\t');
+        let value = values.find(|value| value.len() > CELL_BYTES)?;
+        Some((number, value.len()))
+    });
+    if let Some((number, length)) = long {
+        lost.push(format!(
+            "line {number} has a value of {length} characters, and a cell has {CELL_BYTES} in some spreadsheets, 65535 \
+             in others: it is cut there"
+        ));
+    }
+    if lines.next_back() == Some(b"") {
+        lost.push(
+            "its last line is empty, and a spreadsheet saves no empty lines at the end".to_string(),
+        );
+    }
+    (!lost.is_empty()).then(|| {
+        format!(
+            "it is written, but not for a spreadsheet\n    {}",
+            lost.join("\n    ")
+        )
+    })
 }
 
 /// Whether a byte is one that spreadsheets leave at the ends of lines, where none can be right.
