@@ -1,4 +1,5 @@
 -- The promises of a rowset's text, proved.
 pub mod Refusals
 pub mod Tables
+pub mod Within
 pub mod Texts

@@ -43,7 +43,7 @@ use Rattle.text_promises.specs.Texts.{TextAcceptsExactly, TextPlace, Tex
 use Rattle.text_form.specs.Walk.{start}
 use Rattle.text_promises.proofs.Refusals.{passes-or-not, passes, checks-refuse, silent-where-accepted}
 use Rattle.text_promises.proofs.Tables.{tables-fit}
-use Rattle.text_promises.proofs.LimitNumbers.{ByLimit, limit-number}
+use Rattle.text_read.proofs.LimitNumbers.{ByLimit, limit-number}
 
 -- what a reading's answer tells of it
 data Told (s : List ℕ) (a : Answer) : Type 0 where

@@ -1,11 +1,12 @@
 -- The promises of document 02's A1, over the statements of `text_size`, `write_text` and `count_text`. Assumes nothing.
 use mathlib.Core.Path.{_≡_}
-use mathlib.Core.List.{List}
-use Prim.Native.Nat.{ℕ, _^_, _<_}
+use mathlib.Core.List.{List, [], _∷_}
+use Prim.Native.Nat.{ℕ, _^_, _<_, _≤_}
 use lib.ListN.{length, getD, take}
 use Rattle.words.specs.Word.{Bytes}
 use Rattle.places.specs.Place.{Place}
-use Rattle.wire.specs.Content.{Row, rowsIn}
+use Rattle.wire.specs.Layout.{maxRows, maxValues, maxLength, maxSize}
+use Rattle.wire.specs.Content.{Content, Cell, Row, rowsIn, bytesOfRows}
 use Rattle.wire.specs.declared.error.WireError.{WireError}
 use Rattle.wire.specs.declared.error.WireError.the-variants.{Truncated, TooManyRows, TooManyValues, ValueTooLong, RowsetTooLarge, UnknownValueType, TrailingBytes, NoRoom, BadTable}
 use Rattle.wire_check.specs.Statement.{Measures}
@@ -17,11 +18,25 @@ use Rattle.wire_write.specs.declared.write.Encoded.the-variants.{Written, Refus
 use Rattle.text_form.specs.Form.{IsText, Accepted}
 use Rattle.text_size.specs.Statement.{SizesText}
 use Rattle.text_write.specs.Statement.{WritesText}
-use Rattle.text_walk.specs.Tables.{allCells, areaBytes}
+use Rattle.text_walk.specs.Tables.{blobOf, cellsOf, allCells, areaBytes}
 use Rattle.text_walk.specs.Statement.{Counts}
 use Rattle.text_walk.specs.declared.error.TextError.the-variants.{BadText}
 use Rattle.text_walk.specs.declared.walk.Walked.{Walked}
 use Rattle.text_walk.specs.declared.walk.Walked.the-variants.{Counted, Stopped}
+
+-- Document 01's limits, as rows keep them: at most so many values in a row and so many bytes in a blob; so many rows, and a rowset
+-- of so many bytes
+
+abbrev pub CellsWithin : List Cell → Type 0
+CellsWithin [] = Unit {0}
+CellsWithin (c ∷ cells) = (length (blobOf (c .content)) ≤ maxLength) × CellsWithin cells
+
+abbrev pub RowsWithin : List Row → Type 0
+RowsWithin [] = Unit {0}
+RowsWithin (row ∷ rows) = (length (cellsOf row) ≤ maxValues) × CellsWithin (cellsOf row) × RowsWithin rows
+
+abbrev pub WithinLimits : List Row → Type 0
+WithinLimits rows = RowsWithin rows × (length rows ≤ maxRows) × (length (bytesOfRows rows) ≤ maxSize)
 
 -- limits aside, the walk takes exactly the form: what is counted is the text of rows with these counts, and what 19 refuses is the
 -- text of no rows
