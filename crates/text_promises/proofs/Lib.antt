@@ -2,4 +2,5 @@
 pub mod Refusals
 pub mod Tables
 pub mod Within
+pub mod Filled
 pub mod Texts
