@@ -3,4 +3,5 @@ pub mod Refusals
 pub mod Tables
 pub mod Within
 pub mod Filled
+pub mod Written
 pub mod Texts
