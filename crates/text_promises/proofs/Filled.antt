@@ -47,7 +47,7 @@ blob-range type is = let x = both (ltb 15 type) (ltb type 19) is in (ltb-true 15
 -- One value: the entry at the word k of the table is that of the cell
 
 module _ (area table : List ℕ) (c : Cell) (k offset : ℕ) (tail rest : List ℕ) (fits : FitsCell c)
-  (stands : drop k table ≡ entriesFrom offset (c ∷ []) ++ tail) (lies : drop offset area ≡ blobOf (c .content) ++ rest) where
+    (stands : drop k table ≡ entriesFrom offset (c ∷ []) ++ tail) (lies : drop offset area ≡ blobOf (c .content) ++ rest) where
   id-is : getD table k 0 ≡ c .id
   unfolding entriesFrom
   id-is = ap (λ (i : ℕ). getD table i 0) (sym (add-zero k)) ∙ word-there table k 0 _ stands
@@ -117,8 +117,7 @@ module _ (area table : List ℕ) (c : Cell) (k offset : ℕ) (tail rest : List �
           let other : blob (c .type) ≡ false = blob-low (c .type) (omega (arith, range .1)) in
           (known-scalar (c .type) (range .0) (range .1), boolean-ok w (is .2) (eqb (c .type) 6) refl, rw (ne-eqb (c .type) 2 (λ e. omega (arith, range .0))), rw other, rw other)
       each (bytes s) is h =
-          let range = blob-range (c .type) (is .0) in
-          (
+          let range = blob-range (c .type) (is .0) in (
             known-blob (c .type) (range .0) (range .1),
             rw (ne-eqb (c .type) 6 (λ e. omega (arith, range .0))),
             rw (ne-eqb (c .type) 2 (λ e. omega (arith, range .0))),
@@ -198,9 +197,12 @@ module _ (area table : List ℕ) where
   unfolding valuesSize cellsBytes
   values-size [] k offset fit there = refl
   values-size (c ∷ cells) k offset fit there =
-      omega (arith, size-is area table c k offset _ _ (fit .0) (first-stands c cells k offset there) (first-lies c cells k offset there),
+      omega (
+        arith,
+        size-is area table c k offset _ _ (fit .0) (first-stands c cells k offset there) (first-lies c cells k offset there),
         values-size cells (k + entryWords) (offset + length (blobOf (c .content))) (fit .1) (others-stand c cells k offset there),
-        length-append (cellBytes c) (cellsBytes cells))
+        length-append (cellBytes c) (cellsBytes cells),
+      )
 
   front-stands : (xs ys : List Cell) (k offset : ℕ) → Stand (xs ++ ys) k offset → Stand xs k offset
   front-stands xs ys k offset there =

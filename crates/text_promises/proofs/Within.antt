@@ -205,8 +205,7 @@ module _ (rows : List Row) (cells : List Cell) (c : Cell) where
   unwhole : Keeps rows (cells ++ c ∷ []) fresh → Keeps rows cells (full c) × (sizeWith rows (cells ++ c ∷ []) ≤ maxSize)
   unwhole k =
       let parts = cells-off cells c (k .cells-within) in
-      let size : sizeWith rows (cells ++ c ∷ []) ≤ maxSize = sum cells (size-with rows (cells ++ c ∷ [])) (k .small) in
-      (
+      let size : sizeWith rows (cells ++ c ∷ []) ≤ maxSize = sum cells (size-with rows (cells ++ c ∷ [])) (k .small) in (
         record {
           rows-within = k .rows-within;
           cells-within = parts .0;
@@ -242,8 +241,7 @@ module _ (rows : List Row) (cells : List Cell) (c : Cell) where
   unwhole-row k =
       let last = rows-off rows (values (cells ++ c ∷ [])) (k .rows-within) in
       let parts = cells-off cells c (last .2) in
-      let size : sizeWith rows (cells ++ c ∷ []) ≤ maxSize = omega (arith, k .small) in
-      (
+      let size : sizeWith rows (cells ++ c ∷ []) ≤ maxSize = omega (arith, k .small) in (
         record {
           rows-within = last .0;
           cells-within = parts .0;

@@ -51,6 +51,11 @@ module _ (area table : List ℕ) where
         (λ is. rw is (omega (arith, long is, ltb-false maxLength (lengthIn table k) (rw is at short))))
         (λ isnt. by-test (scalar (typeIn table k)) (λ is. rw (isnt, is) (omega arith)) (λ none. rw (isnt, none) (omega arith)))
 
+  pub length-cells : (n k : ℕ) → length (cellsIn area table n k) ≡ n
+  unfolding cellsIn
+  length-cells zero k = refl
+  length-cells (suc n) k = ap suc (length-cells n (k + entryWords))
+
   -- Values
 
   module _ (good : Good area table) where
@@ -70,11 +75,6 @@ module _ (area table : List ℕ) where
         let sum : size + valueSize table k ≤ maxSize = ltb-false maxSize _ (thirteen .0) in
         let others = values-told n (k + entryWords) (size + valueSize table k) m rest (omega arith) (omega arith) sum (thirteen .1) in
         ((blob-short k (good k aligned (omega arith)) (twelve .0), others .0), omega (arith, others .1), others .2)
-
-    length-cells : (n k : ℕ) → length (cellsIn area table n k) ≡ n
-    unfolding cellsIn
-    length-cells zero k = refl
-    length-cells (suc n) k = ap suc (length-cells n (k + entryWords))
 
     -- Rows
 
