@@ -717,7 +717,7 @@ fn the_man_page_is_one() {
 #[test]
 fn the_transcripts_of_the_pages_are_true() {
     let mut shown = String::new();
-    for page in ["README.md", "docs/COMMAND.md"] {
+    for page in ["README.md", "docs/COMMAND.md", "docs/TEXT.md"] {
         let text = fs::read_to_string(repository().join(page)).expect("the page is there");
         let blocks = text.split("```console\n").skip(1);
         for block in blocks {
