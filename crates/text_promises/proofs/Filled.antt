@@ -25,8 +25,8 @@ use Rattle.wire_check.proofs.TableLaws.{tables-pass}
 use Rattle.wire_check.proofs.LinesLaws.{check-lines}
 use Rattle.text_form.specs.Form.{FitsContent, FitsCell, FitsCells, FitsRow, FitsRows}
 use Rattle.text_form.proofs.TextLaws.{both}
-use Rattle.text_walk.specs.Tables.{blobOf, blobs, cellsOf, allCells, rowWord, fourthWord, fifthWord, entriesFrom, rowTable, valueTable, areaBytes}
-use Rattle.text_walk.proofs.SizeLaws.{null-cell, word-cell, blob-cell, row-size, null-size, blobs-join}
+use Rattle.text_steps.specs.Tables.{blobOf, blobs, cellsOf, allCells, rowWord, fourthWord, fifthWord, entriesFrom, rowTable, valueTable, areaBytes}
+use Rattle.text_steps.proofs.SizeLaws.{null-cell, word-cell, blob-cell, row-size, null-size, blobs-join}
 use Rattle.text_read.proofs.LineLaws.{entries-join, length-entries}
 use Rattle.text_read.proofs.TextLaws.{length-rowTable, length-valueTable}
 use Rattle.text_promises.specs.Texts.{CellsWithin, RowsWithin, WithinLimits}

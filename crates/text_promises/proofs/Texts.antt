@@ -41,7 +41,7 @@ use Rattle.text_form.proofs.Exactly.{text-injective, text-read}
 use Rattle.text_form.proofs.LimitedLaws.{within-text, within-place}
 use Rattle.text_size.specs.Statement.{tablesText, sizingText}
 use Rattle.text_write.specs.Statement.{writingText, WritesText}
-use Rattle.text_walk.specs.Tables.{cellsOf, allCells, rowWord, rowTable, valueTable, areaBytes}
+use Rattle.text_steps.specs.Tables.{cellsOf, allCells, rowWord, rowTable, valueTable, areaBytes}
 use Rattle.text_walk.specs.Paper.{textPaper, walkedPaper}
 use Rattle.text_walk.specs.Statement.{walking, endingAs, counts, counting}
 use Rattle.text_walk.specs.declared.error.TextError.{TextError}
@@ -60,7 +60,7 @@ use Rattle.text_promises.proofs.Tables.{sound-tables, tables-fit}
 use Rattle.text_promises.proofs.Within.{read-within, within-read}
 use Rattle.text_promises.proofs.Filled.{tables-hold, tables-written}
 use Rattle.text_promises.proofs.Written.{length-cells, written-within}
-use Rattle.text_read.proofs.LimitNumbers.{ByLimit, limit-number}
+use Rattle.text_steps.proofs.LimitNumbers.{ByLimit, limit-number}
 
 -- what a reading's answer tells of it
 data Told (s : List ℕ) (taken : List Row → Answer) (a : Answer) : Type 0 where

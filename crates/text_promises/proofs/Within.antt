@@ -19,9 +19,9 @@ use Rattle.wire.specs.Content.{Content, nothing, word, bytes, Cell, Row, null, 
 use Rattle.text_form.specs.Form.{escaped}
 use Rattle.text_form.specs.Walk.{Phase, fresh, number, letter, digits, full, percent, second, State, hash, at, start, Go, cellOf, typeOf, smallValue, capitalValue, fitsWord, fitsHigh, onward, step, close, walk}
 use Rattle.text_form.specs.Limits.{Ask, asking, beginning, sizeWith, further, over, asked, passed, walkWithin}
-use Rattle.text_walk.specs.Tables.{blobOf, cellsOf}
-use Rattle.text_walk.proofs.SizeLaws.{size-row, size-cell, size-with, size-begun, null-size, empty-size, size-none}
-use Rattle.text_read.proofs.AheadLaws.{begun, rowBegun}
+use Rattle.text_steps.specs.Tables.{blobOf, cellsOf}
+use Rattle.text_steps.proofs.SizeLaws.{size-row, size-cell, size-with, size-begun, null-size, empty-size, size-none}
+use Rattle.text_steps.proofs.AheadLaws.{begun, rowBegun}
 use Rattle.text_promises.specs.Texts.{CellsWithin, RowsWithin, WithinLimits}
 
 -- One value more, one row more

@@ -21,8 +21,8 @@ use Rattle.wire_check.specs.Writing.{idIn, typeIn, aggregateIn, bitsIn, lengthI
 use Rattle.wire_check.specs.Stages.{Good, Sound, fitValues, fitRow, fitRows, fitting}
 use Rattle.wire_check.proofs.TableLaws.{by-test, none-wrong, tables-pass}
 use Rattle.wire_check.proofs.LinesLaws.{check-lines}
-use Rattle.text_walk.specs.Tables.{blobOf, cellsOf}
-use Rattle.text_walk.proofs.SizeLaws.{null-cell, word-cell, blob-cell, row-size, null-size}
+use Rattle.text_steps.specs.Tables.{blobOf, cellsOf}
+use Rattle.text_steps.proofs.SizeLaws.{null-cell, word-cell, blob-cell, row-size, null-size}
 use Rattle.text_promises.specs.Texts.{CellsWithin, RowsWithin, WithinLimits}
 use Rattle.text_promises.proofs.Refusals.{passes}
 

@@ -19,7 +19,7 @@ use Rattle.wire_write.specs.declared.write.Encoded.the-variants.{Written, Refus
 use Rattle.text_form.specs.Form.{IsText, Accepted}
 use Rattle.text_size.specs.Statement.{SizesText}
 use Rattle.text_write.specs.Statement.{WritesText}
-use Rattle.text_walk.specs.Tables.{blobOf, cellsOf, allCells, areaBytes}
+use Rattle.text_steps.specs.Tables.{blobOf, cellsOf, allCells, areaBytes}
 use Rattle.text_walk.specs.Statement.{Counts}
 use Rattle.text_walk.specs.declared.error.TextError.{TextError}
 use Rattle.text_walk.specs.declared.error.TextError.the-variants.{BadText}

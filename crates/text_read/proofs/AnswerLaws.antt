@@ -19,7 +19,7 @@ use Rattle.wire.specs.Content.{Row}
 use Rattle.wire.specs.declared.error.WireError.the-variants.{NoRoom}
 use Rattle.wire.proofs.PaperLaws.{paper-not-taken}
 use Rattle.text_form.specs.Walk.{start}
-use Rattle.text_walk.specs.Tables.{allCells, rowTable, valueTable, areaBytes}
+use Rattle.text_steps.specs.Tables.{allCells, rowTable, valueTable, areaBytes}
 use Rattle.text_walk.specs.Paper.{textPaper, walkedPaper}
 use Rattle.text_walk.specs.Statement.{walking, endingAs, counts, counting, Counts}
 use Rattle.text_walk.specs.declared.error.TextError.{TextError}
@@ -28,7 +28,7 @@ use Rattle.text_walk.specs.declared.walk.Walked.{Walked}
 use Rattle.text_walk.specs.declared.walk.Walked.the-variants.{Counted, Stopped}
 use Rattle.text_read.specs.Statement.{rowsRead, roomed, readingText, ReadsText}
 use Rattle.text_read.specs.Stages.{HasText, FillsText}
-use Rattle.text_read.proofs.LimitNumbers.{ByLimit, limit-number}
+use Rattle.text_steps.proofs.LimitNumbers.{ByLimit, limit-number}
 use Rattle.text_read.proofs.TextLaws.{length-rowTable, length-valueTable}
 
 pub text-not-taken : (e : TextError) → NotTaken (textPaper e)

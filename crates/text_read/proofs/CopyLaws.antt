@@ -11,12 +11,12 @@ use Rattle.wire.specs.Content.{Content, nothing, word, bytes, Cell, Row}
 use Rattle.wire.proofs.LayoutLaws.{sets-append}
 use Rattle.text_form.specs.Form.{tab, lineFeed, percentSign}
 use Rattle.text_form.specs.Walk.{Phase, full, percent, second, State, at, cellOf, capitalValue}
-use Rattle.text_walk.specs.Tables.{blobOf, blobs, allCells, areaBytes}
-use Rattle.text_walk.specs.Stages.{from, EndsThere}
+use Rattle.text_steps.specs.Tables.{blobOf, blobs, allCells, areaBytes}
+use Rattle.text_steps.specs.Reading.{from, EndsThere}
 use Rattle.text_read.specs.Stages.{Has, HasEscape, ReadsEscape, AreaRoom, HasBlob, CopiesUnits}
 use Rattle.text_read.specs.declared.fill.Copied.{Copied}
-use Rattle.text_read.proofs.AheadLaws.{bytesSoFar, within-end}
-use Rattle.text_read.proofs.ReadLaws as reads
+use Rattle.text_steps.proofs.AheadLaws.{bytesSoFar, within-end}
+use Rattle.text_steps.proofs.ReadLaws as reads
 
 -- The two digits of an escape
 

@@ -13,12 +13,12 @@ use Rattle.wire.specs.Layout.{known}
 use Rattle.wire.specs.Content.{Content, nothing, word, bytes, Cell, Row, values}
 use Rattle.text_form.specs.Form.{tab, lineFeed, colon, aggregateSign, percentSign}
 use Rattle.text_form.specs.Walk.{Phase, fresh, number, letter, digits, full, percent, second, State, at, cellOf, typeOf, smallValue, capitalValue, behindDigit}
-use Rattle.text_walk.specs.Tables.{blobOf, blobs, allCells, areaBytes}
-use Rattle.text_walk.specs.Stages.{from, opened, Signless, EndsThere}
+use Rattle.text_steps.specs.Tables.{blobOf, blobs, allCells, areaBytes}
+use Rattle.text_steps.specs.Reading.{from, opened, Signless, EndsThere}
 use Rattle.text_read.specs.Stages.{Has, HasNumber, ReadsId, HasLetter, ReadsLetter, ReadsHead, HasWord, ReadsWord}
 use Rattle.text_read.specs.declared.fill.Number.{Number}
 use Rattle.text_read.specs.declared.fill.Head.{Head}
-use Rattle.text_read.proofs.ReadLaws as reads
+use Rattle.text_steps.proofs.ReadLaws as reads
 
 -- An id: from the place i on its digits so far spell n
 

@@ -1,11 +1,8 @@
 -- The laws of the second walk over a text, and of what both walks come to.
-pub mod AheadLaws
-pub mod ReadLaws
 pub mod FillLaws
 pub mod CopyLaws
 pub mod ValueLaws
 pub mod LineLaws
 pub mod TextLaws
-pub mod LimitNumbers
 pub mod AnswerLaws
 pub mod Unique

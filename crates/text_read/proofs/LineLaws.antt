@@ -19,15 +19,15 @@ use Rattle.wire.proofs.LayoutLaws.{sets-append}
 use Rattle.text_form.specs.Form.{tab, lineFeed, nullSign}
 use Rattle.text_form.specs.Walk.{Phase, fresh, number, State, hash, at, Go, step}
 use Rattle.text_form.specs.Limits.{Ask, asked, passed, over, walkWithin}
-use Rattle.text_walk.specs.Tables.{blobOf, blobs, allCells, cellsOf, rowWord, entriesFrom, areaBytes}
-use Rattle.text_walk.specs.Stages.{from, isDigit, behindValue}
-use Rattle.text_walk.proofs.SizeLaws.{blobs-snoc}
-use Rattle.text_walk.proofs.StepLaws as steps
+use Rattle.text_steps.specs.Tables.{blobOf, blobs, allCells, cellsOf, rowWord, entriesFrom, areaBytes}
+use Rattle.text_steps.specs.Reading.{from, isDigit, behindValue}
+use Rattle.text_steps.proofs.SizeLaws.{blobs-snoc}
+use Rattle.text_steps.proofs.StepLaws as steps
 use Rattle.text_read.specs.Stages.{HasValue, FillsValue, HasLine, HasValues, FillsLine}
 use Rattle.text_read.specs.declared.fill.Value.{Value}
 use Rattle.text_read.specs.declared.fill.Line.{Line}
-use Rattle.text_read.proofs.AheadLaws.{cellsSoFar, within-end}
-use Rattle.text_read.proofs.ReadLaws as reads
+use Rattle.text_steps.proofs.AheadLaws.{cellsSoFar, within-end}
+use Rattle.text_steps.proofs.ReadLaws as reads
 
 -- a move that was asked and went on is the move itself
 on-same : (x : Go) (y : Ask) (next moved : State) → asked {S = State} {R = Unit {0}} {L = Answer} x y ≡ on next → x ≡ on moved → next ≡ moved

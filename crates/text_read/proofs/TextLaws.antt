@@ -9,14 +9,14 @@ use Rattle.places.specs.Machine.{read}
 use Rattle.wire.specs.Content.{Content, Cell, Row}
 use Rattle.wire.proofs.LayoutLaws.{sets-append}
 use Rattle.text_form.specs.Walk.{fresh, State, at, start}
-use Rattle.text_walk.specs.Tables.{blobs, allCells, cellsOf, rowWord, entriesFrom, rowTable, valueTable, areaBytes}
+use Rattle.text_steps.specs.Tables.{blobs, allCells, cellsOf, rowWord, entriesFrom, rowTable, valueTable, areaBytes}
 use Rattle.text_walk.specs.Statement.{walking}
-use Rattle.text_walk.specs.Stages.{from}
-use Rattle.text_walk.proofs.SizeLaws.{blobs-join, cells-join}
-use Rattle.text_walk.proofs.StepLaws as steps
+use Rattle.text_steps.specs.Reading.{from}
+use Rattle.text_steps.proofs.SizeLaws.{blobs-join, cells-join}
+use Rattle.text_steps.proofs.StepLaws as steps
 use Rattle.text_read.specs.Stages.{HasLine, FillsLine, HasText, FillsText}
 use Rattle.text_read.specs.declared.fill.Line.{Line}
-use Rattle.text_read.proofs.AheadLaws.{rowsSoFar, within-end, ended}
+use Rattle.text_steps.proofs.AheadLaws.{rowsSoFar, within-end, ended}
 use Rattle.text_read.proofs.LineLaws.{entries-join, length-entries}
 
 -- One row more, in each table

@@ -6,7 +6,7 @@ use lib.ListN.{length}
 use Rattle.words.specs.Answer.{Answer}
 use Rattle.words.proofs.Unique.{means-one, holds-one}
 use Rattle.wire.specs.Layout.{entryWords}
-use Rattle.text_walk.specs.Tables.{rowTable, valueTable, areaBytes}
+use Rattle.text_steps.specs.Tables.{rowTable, valueTable, areaBytes}
 use Rattle.text_walk.specs.Paper.{walkedPaper}
 use Rattle.text_walk.specs.Statement.{walking}
 use Rattle.text_walk.specs.declared.walk.Walked.{Walked}

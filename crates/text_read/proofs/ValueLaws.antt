@@ -14,15 +14,15 @@ use Rattle.wire.specs.Content.{Content, nothing, word, bytes, Cell, Row}
 use Rattle.wire.proofs.TypeLaws.{scalar-yes, blob-yes, blob-low}
 use Rattle.text_form.specs.Form.{tab, lineFeed}
 use Rattle.text_form.specs.Walk.{Phase, number, digits, full, State, at, cellOf}
-use Rattle.text_walk.specs.Tables.{blobOf, blobs, allCells, areaBytes, fourthWord, fifthWord, entriesFrom}
-use Rattle.text_walk.specs.Stages.{from, opened, EndsThere, behindValue}
+use Rattle.text_steps.specs.Tables.{blobOf, blobs, allCells, areaBytes, fourthWord, fifthWord, entriesFrom}
+use Rattle.text_steps.specs.Reading.{from, opened, EndsThere, behindValue}
 use Rattle.text_read.specs.Stages.{Has, HasWord, ReadsWord, ReadsHead, HasBlob, CopiesUnits, HasContent, ReadsContent, HasValue, FillsValue}
 use Rattle.text_read.specs.declared.fill.Head.{Head}
 use Rattle.text_read.specs.declared.fill.Copied.{Copied}
 use Rattle.text_read.specs.declared.fill.Payload.{Payload}
 use Rattle.text_read.specs.declared.fill.Value.{Value}
-use Rattle.text_read.proofs.AheadLaws.{cellsSoFar, within-end}
-use Rattle.text_read.proofs.ReadLaws as reads
+use Rattle.text_steps.proofs.AheadLaws.{cellsSoFar, within-end}
+use Rattle.text_steps.proofs.ReadLaws as reads
 
 -- What stands behind a letter
 

@@ -10,9 +10,9 @@ use Rattle.places.specs.Machine.{read}
 use Rattle.wire.specs.Layout.{entryWords, known}
 use Rattle.wire.specs.Content.{Content, nothing, word, bytes, Cell, Row}
 use Rattle.text_form.specs.Walk.{Phase, fresh, number, letter, digits, full, percent, State, at, cellOf}
-use Rattle.text_walk.specs.Tables.{blobOf, blobs, allCells, cellsOf, rowWord, fourthWord, fifthWord, entriesFrom, rowTable, valueTable, areaBytes}
+use Rattle.text_steps.specs.Tables.{blobOf, blobs, allCells, cellsOf, rowWord, fourthWord, fifthWord, entriesFrom, rowTable, valueTable, areaBytes}
 use Rattle.text_walk.specs.Statement.{walking}
-use Rattle.text_walk.specs.Stages.{from, isDigit, opened, Signless, EndsThere, behindValue}
+use Rattle.text_steps.specs.Reading.{from, isDigit, opened, Signless, EndsThere, behindValue}
 use Rattle.text_read.specs.declared.fill.Number.{Number}
 use Rattle.text_read.specs.declared.fill.Head.{Head}
 use Rattle.text_read.specs.declared.fill.Copied.{Copied}

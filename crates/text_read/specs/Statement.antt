@@ -12,7 +12,7 @@ use Rattle.words.specs.declared.outcome.Room.the-variants.{Rows, Values, Output
 use Rattle.places.specs.Machine.{Ending, read, stopped}
 use Rattle.wire.specs.Layout.{entryWords}
 use Rattle.wire.specs.Content.{Row}
-use Rattle.text_walk.specs.Tables.{allCells, rowTable, valueTable, areaBytes}
+use Rattle.text_steps.specs.Tables.{allCells, rowTable, valueTable, areaBytes}
 use Rattle.text_walk.specs.Paper.{walkedPaper}
 use Rattle.text_walk.specs.Statement.{walking, endingAs, counts}
 use Rattle.text_walk.specs.declared.walk.Walked.{Walked}

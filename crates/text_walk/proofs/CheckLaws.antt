@@ -19,10 +19,11 @@ use Rattle.wire.specs.declared.error.WireError.the-variants.{TooManyRows, TooMa
 use Rattle.text_form.specs.Form.{tab, lineFeed, nullSign, colon, aggregateSign, percentSign, escaped}
 use Rattle.text_form.specs.Walk.{Phase, fresh, number, letter, digits, full, percent, second, State, hash, at, cellOf, typeOf, smallValue, capitalValue, fitsWord, fitsHigh, behindDigit, start}
 use Rattle.text_form.specs.Limits.{asking, beginning, sizeWith, walkWithin}
-use Rattle.text_walk.specs.Tables.{blobOf, blobs, cellsOf, allCells, areaBytes}
+use Rattle.text_steps.specs.Tables.{blobOf, blobs, cellsOf, allCells, areaBytes}
 use Rattle.text_walk.specs.Statement.{walking, endingAs, counts, counting, Counts}
 use Rattle.text_walk.specs.Paper.{textPaper}
-use Rattle.text_walk.specs.Stages.{isDigit, Reading, from, badAt, StopsBy, IdChecks, opened, Signless, LetterChecks, HeadChecks, WordChecks, EscapeChecks, EndsThere, UnitsCheck, Closed, Settled, behindValue, EndChecks, Wholly, Breaks, Checks, ScalarChecks, BlobChecks, ValueChecks, Wholes, LineFrom, ValuesCheck, NullChecks, LineChecks}
+use Rattle.text_steps.specs.Reading.{isDigit, Reading, from, badAt, opened, Signless, EndsThere, Closed, Settled, behindValue}
+use Rattle.text_walk.specs.Stages.{StopsBy, IdChecks, LetterChecks, HeadChecks, WordChecks, EscapeChecks, UnitsCheck, EndChecks, Wholly, Breaks, Checks, ScalarChecks, BlobChecks, ValueChecks, Wholes, LineFrom, ValuesCheck, NullChecks, LineChecks}
 use Rattle.text_walk.specs.declared.error.TextError.{TextError}
 use Rattle.text_walk.specs.declared.error.TextError.the-variants.{BadText, Limit}
 use Rattle.text_walk.specs.declared.check.Step.{Step}
@@ -36,8 +37,8 @@ use Rattle.text_walk.specs.declared.check.Value.the-variants.{Whole, Bro
 use Rattle.text_walk.specs.declared.check.Line.{Line}
 use Rattle.text_walk.specs.declared.check.Line.the-variants.{Ended, Failed}
 use Rattle.text_walk.specs.declared.walk.Walked.the-variants.{Counted, Stopped}
-use Rattle.text_walk.proofs.StepLaws as step
-use Rattle.text_walk.proofs.SizeLaws as size
+use Rattle.text_steps.proofs.StepLaws as step
+use Rattle.text_steps.proofs.SizeLaws as size
 
 -- An id, digit by digit: from the place i on its digits so far spell n
 
@@ -184,11 +185,6 @@ module _ (s : List ℕ) (start type i left : ℕ) (so-far : WordLeft s start typ
 
 -- An escape's two digits
 
-pub high-most : (h : ℕ) → fitsHigh h ≡ true → h ≤ 15
-high-most h =
-    pick-case (h <? 3) true _ (λ (x : Bool). x ≡ true → h ≤ 15) (λ e _. let low = ltb-true h 3 e in omega arith)
-    (λ _. pick-case (h <? 7) false _ (λ (x : Bool). x ≡ true → h ≤ 15) (λ _ e. not-true e) (λ _ e. let low = ltb-true h 16 e in omega arith))
-
 module _ (s : List ℕ) (i : ℕ) where
   pub escape-early : length s ≤ i → EscapeChecks s i (Bad i)
   escape-early h = λ rows cells id aggregate type t. step.ends-early s i (at rows cells (percent id aggregate type t)) h (step.percent-early rows cells id aggregate type t)
@@ -203,7 +199,7 @@ module _ (s : List ℕ) (i : ℕ) where
         step.halts s i (at rows cells (percent id aggregate type t)) (inl tt) h (step.high-off rows cells id aggregate type t (getD s i 0) (sym same-high ∙ e))
 
     pub high-small : fits ≡ true → high ≤ 15
-    high-small e = high-most high (sym told ∙ e)
+    high-small e = step.high-most high (sym told ∙ e)
 
     module _ (e : fits ≡ true) where
       behind-high : (rows : List Row) (cells : List Cell) (id aggregate type : ℕ) (t : List ℕ) → from s i (at rows cells (percent id aggregate type t)) ≡ from s (i + 1) (at rows cells (second id aggregate type t high))

@@ -1,21 +1,20 @@
 -- What the private stages of the walk hand on: nobody has to believe it. Each stage says how the reading goes on behind it, for
 -- whatever rows and values were read before, or how it stops. Assumes nothing.
 use Prim.Native.Nat.{ℕ, _+_, _≤_, _<_}
-use mathlib.Core.Bool.{Bool, true, false, not, _&&_}
+use mathlib.Core.Bool.{Bool, true}
 use mathlib.Core.Path.{_≡_}
 use mathlib.Core.List.{List, [], _∷_, _++_}
-use mathlib.Core.Logic.{_⊎_, inl, inr}
-use lib.ListN.{length, getD, drop}
-use Rattle.words.specs.Answer.{Answer, refuse}
-use Rattle.words.specs.Decide.{pick, _<?_}
-use Rattle.places.specs.Machine.{Ending, stopped, run}
-use Rattle.wire.specs.Layout.{nullType, known, scalar, blob, maxRows, maxSize, maxLength}
+use mathlib.Core.Logic.{inr}
+use lib.ListN.{length}
+use Rattle.words.specs.Answer.{refuse}
+use Rattle.places.specs.Machine.{stopped}
+use Rattle.wire.specs.Layout.{known, maxRows, maxSize, maxLength}
 use Rattle.wire.specs.Paper.{paper}
-use Rattle.wire.specs.Content.{Content, nothing, word, bytes, Cell, Row, null, values, cellBytes, cellsBytes, rowBytes, bytesOfRows}
-use Rattle.text_form.specs.Form.{tab, lineFeed, aggregateSign}
-use Rattle.text_form.specs.Walk.{Phase, fresh, number, letter, digits, full, percent, State, hash, at, cellOf}
-use Rattle.text_form.specs.Limits.{sizeWith, walkWithin}
-use Rattle.text_walk.specs.Tables.{blobOf, blobs, cellsOf}
+use Rattle.wire.specs.Content.{Content, word, bytes, Cell, Row, cellBytes, rowBytes, bytesOfRows}
+use Rattle.text_form.specs.Walk.{fresh, number, letter, digits, full, percent, State, hash, at, cellOf}
+use Rattle.text_form.specs.Limits.{sizeWith}
+use Rattle.text_steps.specs.Tables.{blobOf, blobs, cellsOf}
+use Rattle.text_steps.specs.Reading.{Reading, from, badAt, opened, Signless, EndsThere, Settled, behindValue}
 use Rattle.text_walk.specs.declared.error.TextError.{TextError}
 use Rattle.text_walk.specs.declared.error.TextError.the-variants.{BadText, Limit}
 use Rattle.text_walk.specs.declared.check.Step.{Step}
@@ -29,20 +28,6 @@ use Rattle.text_walk.specs.declared.check.Value.the-variants.{Whole, Bro
 use Rattle.text_walk.specs.declared.check.Line.{Line}
 use Rattle.text_walk.specs.declared.check.Line.the-variants.{Ended, Failed}
 
-abbrev pub isDigit : ℕ → Bool
-isDigit b = not (b <? 48) && b <? 58
-
-abbrev pub Reading : Type 0
-Reading = Ending (List Row) (Unit {0} ⊎ Answer)
-
--- the reading from the place i on, in the state q
-abbrev pub from : List ℕ → ℕ → State → Reading
-from s i q = run walkWithin q i (drop i s)
-
--- a reading that stops with 19 at this place, or somewhere by a limit
-abbrev pub badAt : ℕ → Reading
-badAt place = stopped place (inl tt)
-
 abbrev pub StopsBy : TextError → Reading → Type 0
 StopsBy (BadText place) reading = reading ≡ badAt place
 StopsBy (Limit refusal) reading = (place : ℕ) × (reading ≡ stopped place (inr (paper refusal)))
@@ -55,16 +40,6 @@ abbrev pub IdChecks : List ℕ → ℕ → ℕ → Step → Type 0
 IdChecks s i n (To next) =
     (id : ℕ) × Lies s i next × ((rows : List Row) (cells : List Cell) → from s i (at rows cells (number n)) ≡ from s next (at rows cells (letter id 0)))
 IdChecks s i n (Bad place) = (rows : List Row) (cells : List Cell) → from s i (at rows cells (number n)) ≡ badAt place
-
--- behind the letter of a type
-abbrev pub opened : ℕ → ℕ → ℕ → Phase
-opened id aggregate type =
-    pick (blob type) (full (cellOf id aggregate type (bytes [])))
-    (pick (scalar type) (digits id aggregate type 15 0) (full (cellOf id aggregate nullType nothing)))
-
--- no aggregate sign, unless there was one
-abbrev pub Signless : List ℕ → ℕ → ℕ → Type 0
-Signless s i aggregate = getD s i 0 ≡ aggregateSign → aggregate ≡ 0 → ⊥
 
 abbrev pub LetterChecks : List ℕ → ℕ → Head → Type 0
 LetterChecks s i (Typed next type) =
@@ -95,30 +70,12 @@ EscapeChecks s i (To next) =
 EscapeChecks s i (Bad place) =
     (rows : List Row) (cells : List Cell) (id aggregate type : ℕ) (t : List ℕ) → from s i (at rows cells (percent id aggregate type t)) ≡ badAt place
 
--- a tab or a line feed stands there
-abbrev pub EndsThere : List ℕ → ℕ → Type 0
-EndsThere s i = (i < length s) × ((getD s i 0 ≡ tab) ⊎ (getD s i 0 ≡ lineFeed))
-
 abbrev pub UnitsCheck : List ℕ → ℕ → Blob → Type 0
 UnitsCheck s i (Ends next n) =
     (t : List ℕ) × (length t ≡ n) × (n ≤ maxLength) × (i ≤ next) × EndsThere s next
     × ((rows : List Row) (cells : List Cell) (id aggregate type : ℕ) → from s i (at rows cells (full (cellOf id aggregate type (bytes [])))) ≡ from s next (at rows cells (full (cellOf id aggregate type (bytes t)))))
 UnitsCheck s i (Fails refusal) =
     (rows : List Row) (cells : List Cell) (id aggregate type : ℕ) → StopsBy refusal (from s i (at rows cells (full (cellOf id aggregate type (bytes [])))))
-
--- nothing but the end fits behind it
-abbrev pub Closed : Content → Type 0
-Closed nothing = Unit {0}
-Closed (word w) = Unit {0}
-Closed (bytes s) = ⊥
-
-abbrev pub Settled : List ℕ → ℕ → Cell → Type 0
-Settled s i c = Closed (c .content) ⊎ EndsThere s i
-
--- behind the byte that ends a value
-abbrev pub behindValue : Bool → List Row → List Cell → Cell → State
-behindValue true rows cells c = at (rows ++ values (cells ++ c ∷ []) ∷ []) [] fresh
-behindValue false rows cells c = at rows (cells ++ c ∷ []) fresh
 
 abbrev pub EndChecks : List ℕ → ℕ → ℕ → ℕ → Value → Type 0
 EndChecks s i n size (Whole next n′ size′ last) =

@@ -10,7 +10,7 @@ use Rattle.places.specs.Machine.{Ending, read, stopped, run}
 use Rattle.wire.specs.Content.{Row}
 use Rattle.text_form.specs.Walk.{start}
 use Rattle.text_form.specs.Limits.{walkWithin}
-use Rattle.text_walk.specs.Tables.{allCells, areaBytes}
+use Rattle.text_steps.specs.Tables.{allCells, areaBytes}
 use Rattle.text_walk.specs.Paper.{walkedPaper}
 use Rattle.text_walk.specs.declared.walk.Walked.{Walked}
 

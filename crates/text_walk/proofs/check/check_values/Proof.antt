@@ -4,7 +4,7 @@ use Prim.Native.Nat.{_-_}
 use native.Mathlib.Omega.{arith}
 use lib.ListN.{length, getD}
 use borrow.Author.Tests.{not-true, not-false}
-use Rattle.text_walk.proofs.StepLaws.{digit-range}
+use Rattle.text_steps.proofs.StepLaws.{digit-range}
 use Rattle.text_walk.proofs.CheckLaws.{ValuesLeft, values-begin, values-early, values-other, values-many, values-broken, value-lies, whole-fits, counts-small, values-more, values-last}
 use borrow.Author.Needs.{needs}
 use Rattle.text_walk.proofs.check.check_values.Statement.{statement}

@@ -9,7 +9,7 @@ use Rattle.words.proofs.WordLaws.{length-bytesOf}
 use Rattle.wire.specs.Layout.{padding, padded}
 use Rattle.wire.specs.Content.{Content, nothing, word, bytes, Cell, Row, null, values, lengthWord, contentBytes, cellBytes, cellsBytes, rowBytes, rowsBytes, bytesOfRows}
 use Rattle.text_form.specs.Limits.{sizeWith}
-use Rattle.text_walk.specs.Tables.{blobOf, blobs, cellsOf, allCells}
+use Rattle.text_steps.specs.Tables.{blobOf, blobs, cellsOf, allCells}
 
 rows-snoc : (rows : List Row) (r : Row) → length (rowsBytes (rows ++ r ∷ [])) ≡ length (rowsBytes rows) + length (rowBytes r)
 unfolding rowsBytes

@@ -9,6 +9,7 @@ use borrow.Author.Tests.{not-false, lt-ltb, le-ltb, ne-eqb, eq-eqb, ltb-true, lt
 use lib.ListN.{length, getD, drop}
 use Rattle.words.specs.Answer.{Answer, refuse}
 use Rattle.words.specs.Decide.{pick, _<?_, _=?_}
+use Rattle.words.proofs.DecideLaws.{pick-case}
 use Rattle.places.specs.Machine.{on, off, read, stopped, run}
 use Rattle.places.proofs.MachineLaws.{loop-on, loop-off, loop-read, loop-early}
 use Rattle.wire.specs.Layout.{nullType, known, scalar, blob, maxRows, maxValues, maxLength, maxSize}
@@ -18,7 +19,7 @@ use Rattle.text_form.specs.Walk.{Phase, fresh, number, letter, digits, full, pe
 use Rattle.text_form.specs.Limits.{asked, asking, further, beginning, ending, lengthening, sizeWith, over, walkWithin}
 use Rattle.text_form.proofs.TextLaws.{both, not-true}
 use Rattle.text_form.proofs.Reading.{Plain, plain}
-use Rattle.text_walk.specs.Stages.{isDigit, from, badAt, opened, Closed, behindValue}
+use Rattle.text_steps.specs.Reading.{isDigit, from, badAt, opened, Closed, behindValue}
 
 -- at a byte of the text, and at its end
 module _ (s : List ℕ) (i : ℕ) where
@@ -358,3 +359,9 @@ module _ (rows : List Row) (cells : List Cell) (c : Cell) where
       each nothing shut = refl
       each (word w) shut = refl
       each (bytes s) shut = absurd shut
+
+-- a high digit that fits is one digit
+pub high-most : (h : ℕ) → fitsHigh h ≡ true → h ≤ 15
+high-most h =
+    pick-case (h <? 3) true _ (λ (x : Bool). x ≡ true → h ≤ 15) (λ e _. let low = ltb-true h 3 e in omega arith)
+    (λ _. pick-case (h <? 7) false _ (λ (x : Bool). x ≡ true → h ≤ 15) (λ _ e. not-true e) (λ _ e. let low = ltb-true h 16 e in omega arith))

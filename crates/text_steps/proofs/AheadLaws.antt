@@ -17,9 +17,9 @@ use Rattle.wire.specs.Content.{Content, nothing, word, bytes, Cell, Row, null, 
 use Rattle.text_form.specs.Form.{escaped}
 use Rattle.text_form.specs.Walk.{Phase, fresh, number, letter, digits, full, percent, second, State, hash, at, Go, cellOf, typeOf, smallValue, capitalValue, fitsWord, fitsHigh, behindDigit, onward, step, close}
 use Rattle.text_form.specs.Limits.{asked, passed, over, walkWithin}
-use Rattle.text_walk.specs.Tables.{blobOf, blobs, cellsOf, allCells, areaBytes}
-use Rattle.text_walk.specs.Stages.{from}
-use Rattle.text_walk.proofs.SizeLaws.{blobs-snoc, blobs-join, cells-join}
+use Rattle.text_steps.specs.Tables.{blobOf, blobs, cellsOf, allCells, areaBytes}
+use Rattle.text_steps.specs.Reading.{from}
+use Rattle.text_steps.proofs.SizeLaws.{blobs-snoc, blobs-join, cells-join}
 
 -- a value has begun
 abbrev pub begun : Phase → ℕ

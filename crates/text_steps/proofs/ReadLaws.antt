@@ -18,9 +18,8 @@ use Rattle.text_form.specs.Form.{tab, lineFeed, nullSign, colon, aggregateSign,
 use Rattle.text_form.specs.Walk.{Phase, fresh, number, letter, digits, full, percent, second, State, hash, at, cellOf, typeOf, smallValue, capitalValue, fitsWord, fitsHigh, behindDigit, step, close}
 use Rattle.text_form.specs.Limits.{asking, beginning, sizeWith, walkWithin}
 use Rattle.text_form.proofs.TextLaws.{both, not-true}
-use Rattle.text_walk.specs.Stages.{isDigit, from, badAt, opened, Closed, behindValue}
-use Rattle.text_walk.proofs.CheckLaws.{high-most}
-use Rattle.text_walk.proofs.StepLaws as steps
+use Rattle.text_steps.specs.Reading.{isDigit, from, badAt, opened, Closed, behindValue}
+use Rattle.text_steps.proofs.StepLaws as steps
 
 module _ (s : List ℕ) (i : ℕ) (q : State) (final : List Row) (reads : from s i q ≡ read final) where
   -- it does not stop there
@@ -156,7 +155,7 @@ module _ (s : List ℕ) (i : ℕ) (rows : List Row) (cells : List Cell) (id aggr
     high-fits = each (fitsHigh (capitalValue (getD s i 0))) refl
       where
         each : (x : Bool) → fitsHigh (capitalValue (getD s i 0)) ≡ x → (capitalValue (getD s i 0) ≤ 15) × (from s (i + 1) (at rows cells (second id aggregate type t (capitalValue (getD s i 0)))) ≡ read final)
-        each true e = (high-most (capitalValue (getD s i 0)) e, next-is s i _ final reads high-there _ (steps.high-on rows cells id aggregate type t (getD s i 0) e))
+        each true e = (steps.high-most (capitalValue (getD s i 0)) e, next-is s i _ final reads high-there _ (steps.high-on rows cells id aggregate type t (getD s i 0) e))
         each false e = absurd (not-off s i _ final reads high-there (inl tt) (steps.high-off rows cells id aggregate type t (getD s i 0) e))
 
   module _ (h : ℕ) (reads : from s i (at rows cells (second id aggregate type t h)) ≡ read final) where
