@@ -52,7 +52,7 @@ use Rattle.text_walk.proofs.Unique.{walkedOf, walked-back}
 use Rattle.text_read.specs.Statement.{rowsRead, roomed, readingText, ReadsText}
 use Rattle.text_read.proofs.AnswerLaws.{text-not-taken}
 use Rattle.text_read.proofs.TextLaws.{length-rowTable, length-valueTable}
-use Rattle.text_promises.specs.Texts.{WithinLimits, HasRoom, CountAcceptsExactly, CountPlace, TextAcceptsExactly, TextPlace, TextRefusalKeeps, TextAndBack, TablesAndBack}
+use Rattle.text_promises.specs.Texts.{WithinLimits, HasRoom, CountAcceptsExactly, CountPlace, TextAcceptsExactly, TextPlace, TextRefusalKeeps, TextAndBack, TablesAndBack, WrittenAndBack}
 use Rattle.text_promises.specs.Texts.{TextOnce, SizesRefuseAlike, NotForRoom, WritersRefuseAlike, Words, WrittenIsText}
 use Rattle.text_form.specs.Walk.{start}
 use Rattle.text_promises.proofs.Refusals.{passes-or-not, passes, checks-refuse, silent-where-accepted}
@@ -417,3 +417,17 @@ tables-and-back area rows values before after n all-bytes all-words writes rows�
       words,
       rw (← count, ← width) (holds ∙ same),
     )
+
+pub written-and-back : WrittenAndBack
+written-and-back area rows values before after n all-bytes all-words writes rows₀ values₀ area₀ r rows′ values′ area′ reads room before₂ r₂ after₂ writes₂ fits =
+    let s : List ℕ = take n after in
+    let k : ℕ = length (areaBytes (rowsIn area rows values)) in
+    let read-so = tables-and-back area rows values before after n all-bytes all-words writes rows₀ values₀ area₀ r rows′ values′ area′ reads room in
+    let sound = sound-tables area rows values 0 0 (silent area rows values before after n writes (accepted 0 [])) in
+    let width : entryWords * (length values / entryWords) ≡ length values = omega (arith, sound .whole) in
+    let long : length s ≡ n =
+    ap (λ (l : List ℕ). length (take n l)) (after-is area rows values before after n writes) ∙ ap length (take-at (tablesText area rows values) _ n (count-is area rows values before after n writes))
+    ∙ count-is area rows values before after n writes in
+    let back =
+    text-and-back s rows₀ values₀ area₀ (length rows) (length values / entryWords) k rows′ values′ area′ (rw (read-so .0) at reads) before₂ r₂ after₂ (rw width writes₂) (omega (arith, long)) in
+    (back .0 ∙ ap Written long, ap (take n) (back .1) ∙ front s before₂ n (sym long))

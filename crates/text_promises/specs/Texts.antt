@@ -141,3 +141,14 @@ TablesAndBack =
     (r ≡ Counted (length rows) (length values / entryWords) k)
     × (take (length rows) rows′ ≡ rows)
     × (rowsIn (take k area′) (take (length rows) rows′) (take (length values) values′) ≡ rowsIn area rows values)
+
+-- so the text that was written goes to tables and back unchanged
+abbrev pub WrittenAndBack : Type 0
+WrittenAndBack =
+    (area rows values before after : List ℕ) (n : ℕ) → Bytes area → Words values → WritesText area rows values before (Written n) after
+    → (rows₀ values₀ area₀ : List ℕ) (r : Walked) (rows′ values′ area′ : List ℕ) → ReadsText (take n after) rows₀ values₀ area₀ r rows′ values′ area′
+    → HasRoom (rowsIn area rows values) rows₀ values₀ area₀
+    → let k = length (areaBytes (rowsIn area rows values)) in
+    (before₂ : List ℕ) (r₂ : Encoded) (after₂ : List ℕ)
+    → WritesText (take k area′) (take (length rows) rows′) (take (length values) values′) before₂ r₂ after₂
+    → n ≤ length before₂ → (r₂ ≡ Written n) × (take n after₂ ≡ take n after)
