@@ -9,7 +9,7 @@ use Rattle.words.specs.declared.outcome.Outcome.{Outcome}
 use Rattle.wire.specs.Layout.{entryWords}
 use Rattle.text_size.specs.Statement.{tablesText, sizingText}
 use Rattle.text_write.specs.Statement.{writingText}
-use Rattle.text_walk.specs.Tables.{rowTable, valueTable, areaBytes}
+use Rattle.text_steps.specs.Tables.{rowTable, valueTable, areaBytes}
 use Rattle.text_walk.specs.Statement.{walking}
 use Rattle.text_read.specs.Statement.{rowsRead, readingText}
 
