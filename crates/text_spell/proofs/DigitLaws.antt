@@ -1,37 +1,54 @@
--- A hex digit with small letters alone, or capital ones alone, by its value in either case. Assumes nothing.
+-- A hex digit with small letters alone, by its value if it were one, or with capital ones alone. Assumes nothing.
 use mathlib.Core.Path.{_≡_, refl, sym, _∙_}
-use mathlib.Core.Bool.{Bool, true, false, _&&_}
-use mathlib.Core.Logic.{_⊎_, inl, inr, ⊎-elim}
-use Prim.Native.Nat.{ℕ, _<_, _≤_}
+use mathlib.Core.Logic.{⊎-elim}
+use Prim.Native.Nat.{ℕ, _+_, _*_, _/_, _%_, _<_, _≤_}
 use native.Mathlib.Omega.{arith}
-use borrow.Author.Tests.{lt-ltb, le-ltb, ltb-true, ltb-false}
-use Rattle.words.specs.Decide.{_<?_}
+use borrow.Author.Tests.{lt-ltb, le-ltb}
+use Rattle.words.specs.Decide.{pick, _<?_}
+use Rattle.words.proofs.DecideLaws.{le-or-gt}
 use Rattle.words.specs.Text.{digitOf}
 use Rattle.text_form.specs.Walk.{smallValue, capitalValue}
-use Rattle.text_form.proofs.TextLaws.{both}
 
-pub gap-small : (b : ℕ) → (57 <? b && b <? 97) ≡ true → 16 ≡ smallValue b
-unfolding smallValue
-gap-small b e =
-    let low : 57 < b = ltb-true 57 b (both (57 <? b) (b <? 97) e .0) in
-    let high : b < 97 = ltb-true b 97 (both (57 <? b) (b <? 97) e .1) in
-    rw (le-ltb b 48 (omega arith), le-ltb b 58 (omega arith), lt-ltb b 97 high)
+module _ (b : ℕ) where
+  -- neither a digit nor one of the six letters
+  no-digit : (48 ≤ b → b < 58 → ⊥) → (97 ≤ b → b < 103 → ⊥) → 16 ≡ smallValue b
+  unfolding smallValue
+  no-digit low high = ⊎-elim (λ (h : 48 ≤ b). digits h) (λ (h : b < 48). rw (lt-ltb b 48 h)) (le-or-gt 48 b)
+    where
+      letters : 58 ≤ b → 16 ≡ smallValue b
+      letters h =
+          ⊎-elim
+          (λ (k : 97 ≤ b).
+          ⊎-elim (λ (m : 103 ≤ b). rw (le-ltb b 48 (omega arith), le-ltb b 58 h, le-ltb b 97 k, le-ltb b 103 m)) (λ (m : b < 103). absurd (high k m)) (le-or-gt 103 b))
+          (λ (k : b < 97). rw (le-ltb b 48 (omega arith), le-ltb b 58 h, lt-ltb b 97 k))
+          (le-or-gt 97 b)
 
-not-both : (x y : Bool) → (x && y) ≡ false → (x ≡ false) ⊎ (y ≡ false)
-not-both true y e = inr e
-not-both false y e = inl refl
+      digits : 48 ≤ b → 16 ≡ smallValue b
+      digits h = ⊎-elim (λ (k : 58 ≤ b). letters k) (λ (k : b < 58). absurd (low h k)) (le-or-gt 58 b)
 
-pub other-small : (b : ℕ) → (57 <? b && b <? 97) ≡ false → digitOf b ≡ smallValue b
-unfolding smallValue digitOf
-other-small b e =
-    ⊎-elim
-    (λ (under : (57 <? b) ≡ false).
-    let low : b ≤ 57 = ltb-false 57 b under in
-    rw (lt-ltb b 58 (omega arith)))
-    (λ (past : (b <? 97) ≡ false).
-    let high : 97 ≤ b = ltb-false b 97 past in
-    rw (le-ltb b 48 (omega arith), le-ltb b 58 (omega arith), le-ltb b 65 (omega arith), le-ltb b 71 (omega arith), le-ltb b 97 high))
-    (not-both (57 <? b) (b <? 97) e)
+  -- the value as if it were one
+  module _ (v : ℕ) (is : v ≡ b % 16 + 9 * (b / 64)) where
+    pub too-much : 15 < v → 16 ≡ smallValue b
+    too-much h = no-digit (λ low high. omega arith) (λ low high. omega arith)
+
+    module _ (w : ℕ) (told : w ≡ pick (v <? 10) (48 + v) (87 + v)) (small : v ≤ 15) where
+      pub another : (w ≡ b → ⊥) → 16 ≡ smallValue b
+      another other =
+          no-digit
+          (λ low high. let few : v < 10 = omega arith in other (told ∙ rw (lt-ltb v 10 few) (omega arith)))
+          (λ low high. let many : 10 ≤ v = omega arith in other (told ∙ rw (le-ltb v 10 many) (omega arith)))
+
+      pub the-digit : w ≡ b → v ≡ smallValue b
+      unfolding smallValue
+      the-digit same =
+          ⊎-elim
+          (λ (many : 10 ≤ v).
+          let letter : b ≡ 87 + v = sym same ∙ told ∙ rw (le-ltb v 10 many) in
+          rw (le-ltb b 48 (omega arith), le-ltb b 58 (omega arith), le-ltb b 97 (omega arith), lt-ltb b 103 (omega arith)) (omega arith))
+          (λ (few : v < 10).
+          let number : b ≡ 48 + v = sym same ∙ told ∙ rw (lt-ltb v 10 few) in
+          rw (le-ltb b 48 (omega arith), lt-ltb b 58 (omega arith)) (omega arith))
+          (le-or-gt 10 v)
 
 pub past-capital : (b : ℕ) → 70 < b → 16 ≡ capitalValue b
 unfolding capitalValue

@@ -1,7 +1,7 @@
 // What single bytes of a rowset's text spell, for its writer and its reader: a type's letter, a blob's byte, a hex digit.
 ghost use mathlib.Core.Path.{_≡_};
-ghost use mathlib.Core.Bool.{_&&_};
-ghost use Rattle.words.specs.Decide.{_<?_};
+ghost use Prim.Native.Nat.{_+_, _≤_};
+ghost use Rattle.words.specs.Decide.{pick, _<?_};
 ghost use Rattle.text_spell.specs.Statement.{IsLetter, IsType, TellsEscaped, IsSmallValue, IsCapitalValue};
 use numerals::digit_value;
 use wire::kind::ANY;
@@ -91,25 +91,30 @@ pub fn is_escaped(byte: u8) -> bool
     byte == b'%'
 }
 
-// Whether a byte stands between the digits and the small letters. One comparison, of which the processor sees ahead that it
-// fails.
-fn in_gap(byte: u8) -> bool
-    ensures { λ r. ⌜ r ≡ (57 <? byte && byte <? 97) ⌝ }
+// The small letter or the digit of this value.
+fn spelled(value: u32) -> u32
+    requires { ⌜ value ≤ 15 ⌝ }
+    ensures { λ r. ⌜ r ≡ pick (value <? 10) (48 + value) (87 + value) ⌝ }
 {
-    if byte <= b'9' {
-        return false;
+    if value < 10 {
+        return 48 + value;
     }
-    byte < b'a'
+    87 + value
 }
 
-// The value of a hex digit whose letters are small, 16 for any other byte.
+// The value of a hex digit whose letters are small, 16 for any other byte. It is computed as if the byte were such a digit, and
+// then held against the byte: the processor sees both tests ahead.
 pub fn small_value(byte: u8) -> u32
     ensures { λ r. ⌜ IsSmallValue byte r ⌝ }
 {
-    if in_gap(byte) {
+    let value = (byte % 16) as u32 + 9 * (byte / 64) as u32;
+    if 15 < value {
         return 16;
     }
-    digit_value(byte)
+    if spelled(value) != byte as u32 {
+        return 16;
+    }
+    value
 }
 
 // The value of a hex digit whose letters are capital, 16 for any other byte.

@@ -328,6 +328,36 @@ module _ (s : List ℕ) (start i count : ℕ) (so-far : UnitsLeft s start i coun
     pub units-end : (getD s i 0 ≡ tab) ⊎ (getD s i 0 ≡ lineFeed) → UnitsCheck s start (Ends i count)
     units-end there = (so-far .0, so-far .1, so-far .2, so-far .3, (h, there), so-far .5)
 
+-- the same by the place at which one byte more would be too many
+abbrev pub UnitsTo : List ℕ → ℕ → ℕ → ℕ → Type 0
+UnitsTo s start i limit = (limit ≤ i + 16777216) × UnitsLeft s start i (i + 16777216 - limit)
+
+same-count : (s : List ℕ) (start i n m : ℕ) → n ≡ m → UnitsLeft s start i n → UnitsLeft s start i m
+same-count s start i n m e left = rw (← e) left
+
+pub to-begin : (s : List ℕ) (start : ℕ) → start ≤ length s → UnitsTo s start start (start + 16777216)
+to-begin s start h = (omega arith, same-count s start start 0 (start + 16777216 - (start + 16777216)) (omega arith) (units-begin s start h))
+
+module _ (s : List ℕ) (start i limit : ℕ) (to : UnitsTo s start i limit) where
+  pub at-most : i ≡ limit → i + 16777216 - limit ≡ maxLength
+  at-most e = omega arith
+
+  pub not-most : (i ≡ limit → ⊥) → i + 16777216 - limit ≡ maxLength → ⊥
+  not-most other e = other (omega (arith, to .0))
+
+  pub plain-to : i < length s → escaped (getD s i 0) ≡ false → (i ≡ limit → ⊥) → UnitsTo s start (i + 1) limit
+  plain-to h isnt other =
+      (omega (arith, to .0), same-count s start (i + 1) (i + 16777216 - limit + 1) (i + 1 + 16777216 - limit) (omega (arith, to .0)) (units-plain s start i (i + 16777216 - limit) (to .1) h isnt (not-most other)))
+
+  pub escape-to : (h : i < length s) (is : escaped (getD s i 0) ≡ true) (sign : getD s i 0 ≡ percentSign) (r : Step) (checked : EscapeChecks s (i + 1) r) (next : ℕ) → r ≡ To next → (i ≡ limit → ⊥)
+      → UnitsTo s start next (limit + (next - i - 1))
+  escape-to h is sign r checked next e other =
+      let lies = escape-lies s start i (i + 16777216 - limit) (to .1) h is sign r checked next e in (
+        omega (arith, to .0, lies .0),
+        same-count s start next (i + 16777216 - limit + 1) (next + 16777216 - (limit + (next - i - 1))) (omega (arith, to .0, lies .0))
+            (units-escape s start i (i + 16777216 - limit) (to .1) h is sign r checked next e (not-most other)),
+      )
+
 -- The byte behind a value
 
 ends-byte : (b : ℕ) → (b =? tab || b =? lineFeed) ≡ true → (b ≡ tab) ⊎ (b ≡ lineFeed)

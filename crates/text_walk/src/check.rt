@@ -233,14 +233,14 @@ fn check_units(text: &[u8], start: usize) -> Blob
     ensures { λ r. ⌜ UnitsCheck (now (text .entry)) start r ⌝ }
 {
     let mut at = start;
-    let mut count: usize = 0;
+    // Where a byte would be one too many. A count of its own would go through memory at every byte.
+    let mut limit = start + MAX_VALUE_LENGTH as usize;
     while at < text.len() {
         let byte = text[at];
         if !is_escaped(byte) {
-            if count == MAX_VALUE_LENGTH as usize {
+            if at == limit {
                 return too_long();
             }
-            count += 1;
             at += 1;
             continue;
         }
@@ -250,10 +250,10 @@ fn check_units(text: &[u8], start: usize) -> Blob
                     return Blob::Fails(TextError::BadText { place });
                 }
                 Step::To(next) => {
-                    if count == MAX_VALUE_LENGTH as usize {
+                    if at == limit {
                         return too_long();
                     }
-                    count += 1;
+                    limit += next - at - 1;
                     at = next;
                     continue;
                 }
@@ -262,13 +262,13 @@ fn check_units(text: &[u8], start: usize) -> Blob
         if byte == b'\t' {
             return Blob::Ends {
                 next: at,
-                length: count,
+                length: at + MAX_VALUE_LENGTH as usize - limit,
             };
         }
         if byte == b'\n' {
             return Blob::Ends {
                 next: at,
-                length: count,
+                length: at + MAX_VALUE_LENGTH as usize - limit,
             };
         }
         return Blob::Fails(TextError::BadText { place: at });
