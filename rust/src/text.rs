@@ -217,7 +217,7 @@ impl fmt::Display for TextError {
 
 impl std::error::Error for TextError {}
 
-/// Where a text goes wrong, what stands there, and what could.
+/// Where a text goes wrong, what stands there, and what could. [`TextError`] tells place, line and column.
 #[derive(Debug, Clone, Copy, PartialEq, Eq)]
 pub struct BadText {
     place: usize,
@@ -348,6 +348,7 @@ impl BadText {
             b"\t" => "a tab".to_string(),
             b"\n" => "the line's end".to_string(),
             b"\r" => "a carriage return".to_string(),
+            b"\xef\xbb\xbf" => "a byte order mark".to_string(),
             &[byte] if !byte.is_ascii_graphic() => format!("the byte 0x{byte:02x}"),
             character => format!("`{}`", Text(character)),
         }
@@ -373,7 +374,7 @@ impl fmt::Display for BadText {
         formatter.write_str(match self.wanted {
             Wanted::More => "every line ends in a line feed, the last one too",
             Wanted::LineFeed => "save it with line feeds alone at the ends of lines",
-            Wanted::NoMark => "save it without a byte order mark",
+            Wanted::NoMark => "save it as UTF-8 without a mark at its front",
             Wanted::NoQuotes => "save it without quotation marks around values",
             Wanted::NoTab => "tabs stand between two values alone: take this one away",
             Wanted::Line => "a line begins with a column's number, or is `#` alone, or empty",

@@ -209,7 +209,11 @@ fn what_a_person_reads() {
     );
     told(
         b"\xef\xbb\xbf0:sa\n",
-        "line 1, column 1, cell A1: `\u{feff}`; save it without a byte order mark",
+        "line 1, column 1, cell A1: a byte order mark; save it as UTF-8 without a mark at its front",
+    );
+    told(
+        b"\xff\xfe0\0:\0",
+        "line 1, column 1, cell A1: the byte 0xff; save it as UTF-8 without a mark at its front",
     );
     told(
         b"#\n\"0:sa\"\n",
