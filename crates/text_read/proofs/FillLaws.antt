@@ -2,10 +2,12 @@
 use mathlib.Core.Path.{_≡_, refl, sym, _∙_, ap}
 use mathlib.Core.Bool.{Bool, true, false}
 use mathlib.Core.List.{List, [], _∷_, _++_, append-nil}
-use mathlib.Core.Logic.{_⊎_, inl, inr}
-use Prim.Native.Nat.{ℕ, zero, suc, _+_, _-_, _*_, _^_, _<_, _≤_}
+use mathlib.Core.Logic.{_⊎_, inl, inr, ⊎-elim}
+use Prim.Native.Nat.{ℕ, zero, suc, _+_, _-_, _*_, _/_, _%_, _^_, _<_, _≤_}
 use native.Mathlib.Nat.{pow-succ', pow-le-pow-right}
 use native.Mathlib.Omega.{arith}
+use borrow.Author.Tests.{lt-ltb, le-ltb}
+use Rattle.words.proofs.DecideLaws.{le-or-gt}
 use lib.ListN.{length, getD, set, length-append}
 use lib.Seq.{sets, length-sets}
 use Rattle.places.specs.Machine.{read}
@@ -87,6 +89,27 @@ module _ (s : List ℕ) (start first : ℕ) (has : HasNumber s start first) (n :
         let rest = letter-told rows cells final (first-part .1) in
         (omega (arith, first-part .0, rest .0), rest .1, rw (rest .2, rest .3) (rest .4))
 
+-- A digit's value without a test
+
+pub plain-digit : (b : ℕ) → smallValue b ≤ 15 → b % 16 + 9 * (b / 64) ≡ smallValue b
+unfolding smallValue
+plain-digit b h = ⊎-elim (λ (k : 48 ≤ b). digits k) (λ (k : b < 48). let big : 16 ≤ 15 = rw (lt-ltb b 48 k) at h in absurd (omega arith)) (le-or-gt 48 b)
+  where
+    last : 97 ≤ b → b % 16 + 9 * (b / 64) ≡ smallValue b
+    last k =
+        ⊎-elim
+        (λ (m : 103 ≤ b). let big : 16 ≤ 15 = rw (le-ltb b 48 (omega arith), le-ltb b 58 (omega arith), le-ltb b 97 k, le-ltb b 103 m) at h in absurd (omega arith))
+        (λ (m : b < 103). rw (le-ltb b 48 (omega arith), le-ltb b 58 (omega arith), le-ltb b 97 k, lt-ltb b 103 m) (omega arith))
+        (le-or-gt 103 b)
+
+    letters : 58 ≤ b → b % 16 + 9 * (b / 64) ≡ smallValue b
+    letters k =
+        ⊎-elim (λ (m : 97 ≤ b). last m)
+        (λ (m : b < 97). let big : 16 ≤ 15 = rw (le-ltb b 48 (omega arith), le-ltb b 58 k, lt-ltb b 97 m) at h in absurd (omega arith)) (le-or-gt 97 b)
+
+    digits : 48 ≤ b → b % 16 + 9 * (b / 64) ≡ smallValue b
+    digits k = ⊎-elim (λ (m : 58 ≤ b). letters m) (λ (m : b < 58). rw (le-ltb b 48 k, lt-ltb b 58 m) (omega arith)) (le-or-gt 58 b)
+
 -- A scalar: `left` digits are to come
 
 pow-most : (k : ℕ) → 16 ^ (16 - k) ≤ 18446744073709551616
@@ -123,7 +146,7 @@ module _ (s : List ℕ) (start type : ℕ) (has : HasWord s start type) (i w lef
     pub digit-there : i < length s
     digit-there = reads.digit-there s i (has .2 .0) (has .2 .1) (has .0) (has .1) type (left - 1) w (has .2 .2) now
 
-    digit-low : smallValue (getD s i 0) ≤ 15
+    pub digit-low : smallValue (getD s i 0) ≤ 15
     digit-low = reads.digit-fits s i (has .2 .0) (has .2 .1) (has .0) (has .1) type (left - 1) w (has .2 .2) now .0
 
     power : 16 ^ (16 - (left - 1)) ≡ 16 * 16 ^ (16 - left)

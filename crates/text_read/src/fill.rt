@@ -1,9 +1,11 @@
 // The second walk, over a text that the first has found good and for which there is room: the tables and the area are filled.
+ghost use mathlib.Core.Path.{_≡_};
+ghost use Prim.Native.Nat.{_≤_};
+ghost use Rattle.text_form.specs.Walk.{smallValue};
 ghost use Rattle.text_read.specs.Stages.{HasNumber, ReadsId, HasLetter, ReadsLetter, ReadsHead, HasWord, ReadsWord};
 ghost use Rattle.text_read.specs.Stages.{HasEscape, ReadsEscape, HasBlob, CopiesUnits, HasContent, ReadsContent};
 ghost use Rattle.text_read.specs.Stages.{HasValue, FillsValue, HasValues, HasLine, FillsLine, HasText, FillsText};
 use text_spell::capital_value;
-use text_spell::small_value;
 use text_spell::type_of;
 use wire::kind::Kind;
 use wire::kind::kind_of;
@@ -103,6 +105,14 @@ fn read_head(text: &[u8], start: usize, first: u64) -> Head
     read_letter(text, at, number.value, 0)
 }
 
+// The value of a byte that is a hex digit, its letters small. It has no test, for digits come as they will.
+fn digit_value(byte: u8) -> u64
+    requires { ⌜ smallValue byte ≤ 15 ⌝ }
+    ensures { λ r. ⌜ r ≡ smallValue byte ⌝ }
+{
+    (byte % 16 + 9 * (byte / 64)) as u64
+}
+
 // The sixteen digits of a scalar's word.
 fn read_word(text: &[u8], start: usize, kind: u64) -> u64
     requires { ⌜ HasWord (now text) start kind ⌝ }
@@ -112,7 +122,7 @@ fn read_word(text: &[u8], start: usize, kind: u64) -> u64
     let mut word: u64 = 0;
     let mut left: u32 = 16;
     while 0 < left {
-        word = word * 16 + small_value(text[at]) as u64;
+        word = word * 16 + digit_value(text[at]);
         at += 1;
         left -= 1;
     }

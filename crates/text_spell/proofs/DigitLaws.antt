@@ -9,6 +9,9 @@ use Rattle.words.proofs.DecideLaws.{le-or-gt}
 use Rattle.words.specs.Text.{digitOf}
 use Rattle.text_form.specs.Walk.{smallValue, capitalValue}
 
+pub spells : (v : ℕ) → v ≤ 15 → 48 + v + 39 * ((v + 6) / 16) ≡ pick (v <? 10) (48 + v) (87 + v)
+spells v h = ⊎-elim (λ (many : 10 ≤ v). rw (le-ltb v 10 many) (omega arith)) (λ (few : v < 10). rw (lt-ltb v 10 few) (omega arith)) (le-or-gt 10 v)
+
 module _ (b : ℕ) where
   -- neither a digit nor one of the six letters
   no-digit : (48 ≤ b → b < 58 → ⊥) → (97 ≤ b → b < 103 → ⊥) → 16 ≡ smallValue b

@@ -91,15 +91,12 @@ pub fn is_escaped(byte: u8) -> bool
     byte == b'%'
 }
 
-// The small letter or the digit of this value.
+// The small letter or the digit of this value, without a test: digits come as they will.
 fn spelled(value: u32) -> u32
     requires { ⌜ value ≤ 15 ⌝ }
     ensures { λ r. ⌜ r ≡ pick (value <? 10) (48 + value) (87 + value) ⌝ }
 {
-    if value < 10 {
-        return 48 + value;
-    }
-    87 + value
+    48 + value + 39 * ((value + 6) / 16)
 }
 
 // The value of a hex digit whose letters are small, 16 for any other byte. It is computed as if the byte were such a digit, and

@@ -1,20 +1,23 @@
 -- `spelled` meets its contract. Assumes nothing.
-use borrow.Author.Tests.{lt-ltb, le-ltb}
 use borrow.Author.Needs.{needs}
+use Rattle.text_spell.proofs.DigitLaws.{spells}
 use Rattle.text_spell.proofs.spelled.Statement.{statement}
 use Rattle.text_spell.proofs.spelled.Tie as tie
 
 add-result : tie.Need-add-result
 add-result c = search needs
 
-returns : tie.Need-returns
-returns c = rw (lt-ltb _ 10 (c .if1 .taken))
-
 add-result-2 : tie.Need-add-result-2
 add-result-2 c = search needs
 
-returns-2 : tie.Need-returns-2
-returns-2 c = rw (le-ltb _ 10 (c .if1 .left))
+mul-result : tie.Need-mul-result
+mul-result c = search needs
+
+add-result-3 : tie.Need-add-result-3
+add-result-3 c = search needs
+
+returns : tie.Need-returns
+returns c = spells _ (c .pre)
 
 pub spelled-spec : {M : Type 1} → statement M
-spelled-spec = tie.close (tie.spec add-result returns add-result-2 returns-2)
+spelled-spec = tie.close (tie.spec add-result add-result-2 mul-result add-result-3 returns)

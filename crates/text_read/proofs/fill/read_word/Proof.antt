@@ -3,7 +3,7 @@ use mathlib.Core.Path.{refl}
 use lib.ListN.{getD}
 use Rattle.text_form.specs.Walk.{smallValue}
 use native.Mathlib.Omega.{arith}
-use Rattle.text_read.proofs.FillLaws.{WordLeft, word-begins, word-done, digit-there, word-fits, word-more}
+use Rattle.text_read.proofs.FillLaws.{WordLeft, word-begins, word-done, digit-there, digit-low, word-fits, word-more}
 use borrow.Author.Needs.{needs}
 use Rattle.text_read.proofs.fill.read_word.Statement.{statement}
 use Rattle.text_read.proofs.fill.read_word.Tie as tie
@@ -20,17 +20,14 @@ loop-holds c = word-begins _ _ _
 mul-word : tie.Need-mul-word Inv-loop μ-loop
 mul-word c = omega (arith, word-fits (c .before .before .before .args .text .now) (c .before .before .before .args .start) (c .before .before .before .args .kind) (c .before .before .before .pre) (c .before .loop .at) (c .before .loop .word) (c .before .loop .left) (c .before .loop .inv) (c .loop-test .taken) (smallValue (getD (c .before .before .before .args .text .now) (c .before .loop .at) 0)) refl)
 
-shared-slice-read-small-value : tie.Need-shared-slice-read-small-value Inv-loop μ-loop
-shared-slice-read-small-value c = digit-there (c .before .before .before .before .args .text .now) (c .before .before .before .before .args .start) (c .before .before .before .before .args .kind) (c .before .before .before .before .pre) (c .before .before .loop .at) (c .before .before .loop .word) (c .before .before .loop .left) (c .before .before .loop .inv) (c .before .loop-test .taken)
+shared-slice-read-digit-value : tie.Need-shared-slice-read-digit-value Inv-loop μ-loop
+shared-slice-read-digit-value c = digit-there (c .before .before .before .before .args .text .now) (c .before .before .before .before .args .start) (c .before .before .before .before .args .kind) (c .before .before .before .before .pre) (c .before .before .loop .at) (c .before .before .loop .word) (c .before .before .loop .left) (c .before .before .loop .inv) (c .before .loop-test .taken)
 
-small-value-requires : tie.Need-small-value-requires Inv-loop μ-loop
-small-value-requires c κs = search needs
-
-cast-word : tie.Need-cast-word Inv-loop μ-loop
-cast-word c = search needs
+digit-value-requires : tie.Need-digit-value-requires Inv-loop μ-loop
+digit-value-requires c κs = digit-low (c .before .before .before .before .args .text .now) (c .before .before .before .before .args .start) (c .before .before .before .before .args .kind) (c .before .before .before .before .pre) (c .before .before .loop .at) (c .before .before .loop .word) (c .before .before .loop .left) (c .before .before .loop .inv) (c .before .loop-test .taken)
 
 add-word : tie.Need-add-word Inv-loop μ-loop
-add-word c = omega (arith, word-fits (c .before .before .before .before .before .args .text .now) (c .before .before .before .before .before .args .start) (c .before .before .before .before .before .args .kind) (c .before .before .before .before .before .pre) (c .before .before .before .loop .at) (c .before .before .before .loop .word) (c .before .before .before .loop .left) (c .before .before .before .loop .inv) (c .before .before .loop-test .taken) (c .small-value .result) (c .small-value .ensures))
+add-word c = omega (arith, word-fits (c .before .before .before .before .before .args .text .now) (c .before .before .before .before .before .args .start) (c .before .before .before .before .before .args .kind) (c .before .before .before .before .before .pre) (c .before .before .before .loop .at) (c .before .before .before .loop .word) (c .before .before .before .loop .left) (c .before .before .before .loop .inv) (c .before .before .loop-test .taken) (c .digit-value .result) (c .digit-value .ensures))
 
 add-at : tie.Need-add-at Inv-loop μ-loop
 add-at c = omega (arith, digit-there (c .before .before .before .before .before .args .text .now) (c .before .before .before .before .before .args .start) (c .before .before .before .before .before .args .kind) (c .before .before .before .before .before .pre) (c .before .before .before .loop .at) (c .before .before .before .loop .word) (c .before .before .before .loop .left) (c .before .before .before .loop .inv) (c .before .before .loop-test .taken), c .before .before .before .before .before .good)
@@ -42,7 +39,7 @@ loop-less : tie.Need-loop-less Inv-loop μ-loop
 loop-less c = omega arith
 
 loop-again : tie.Need-loop-again Inv-loop μ-loop
-loop-again c = word-more (c .before .before .before .before .before .args .text .now) (c .before .before .before .before .before .args .start) (c .before .before .before .before .before .args .kind) (c .before .before .before .before .before .pre) (c .before .before .before .loop .at) (c .before .before .before .loop .word) (c .before .before .before .loop .left) (c .before .before .before .loop .inv) (c .before .before .loop-test .taken) (c .small-value .result) (c .small-value .ensures)
+loop-again c = word-more (c .before .before .before .before .before .args .text .now) (c .before .before .before .before .before .args .start) (c .before .before .before .before .before .args .kind) (c .before .before .before .before .before .pre) (c .before .before .before .loop .at) (c .before .before .before .loop .word) (c .before .before .before .loop .left) (c .before .before .before .loop .inv) (c .before .before .loop-test .taken) (c .digit-value .result) (c .digit-value .ensures)
 
 returns : tie.Need-returns Inv-loop μ-loop
 returns c = word-done (c .before .before .before .args .text .now) (c .before .before .before .args .start) (c .before .before .before .args .kind) (c .before .before .before .pre) (c .before .loop .at) (c .before .loop .word) (c .before .loop .left) (c .before .loop .inv) (c .loop-test .left)
@@ -55,9 +52,8 @@ read-word-spec =
     μ-loop
     loop-holds
     mul-word
-    shared-slice-read-small-value
-    small-value-requires
-    cast-word
+    shared-slice-read-digit-value
+    digit-value-requires
     add-word
     add-at
     sub-left
