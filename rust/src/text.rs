@@ -52,6 +52,9 @@ use std::fmt;
 /// The least bytes of a value's text, with what stands behind it.
 const SHORTEST: usize = 4;
 
+/// How many bytes of tables a byte of text has at most where rows and values are of usual lengths.
+const USUAL: usize = 3;
+
 /// The digits of a scalar's word.
 const WORD_DIGITS: usize = 16;
 
@@ -103,9 +106,16 @@ fn write(tables: (&[u8], &[u64], &[u64])) -> Result<Vec<u8>, WireError> {
 /// Reads the text that `text` is, all of it, into a rowset with memory of its own.
 ///
 /// The tables have 8 bytes for each row and 40 for each value, and the area has no more bytes than the text
-/// has. For a text that is refused no more is reserved than seventeen times its bytes.
+/// has. For a text that is refused no more is reserved than four times its bytes.
 pub fn read_text(text: &[u8]) -> Result<OwnedRowset, TextError> {
     let room = Room::of(text);
+    if room.bytes() > text.len().saturating_mul(USUAL) {
+        // Unusually many rows and values, if it is a text at all: that is asked first.
+        let outcome = sys::read_text(text, &mut [], &mut [], &mut []);
+        if outcome.kind != sys::ACCEPTED && outcome.number != 17 {
+            return Err(TextError::of(&outcome, text));
+        }
+    }
     let mut read = OwnedRowset::default();
     // Where there is no memory for them, 17 says so below.
     table::grow(&mut read.rows, room.rows);
@@ -142,6 +152,12 @@ impl Room {
             rows: rows.min(MAX_ROWS_PER_ROWSET as usize),
             values: values.min(text.len() / SHORTEST),
         }
+    }
+
+    /// The bytes of both tables.
+    fn bytes(&self) -> usize {
+        let words = self.values.saturating_mul(WIDTH).saturating_add(self.rows);
+        words.saturating_mul(size_of::<u64>())
     }
 }
 

@@ -323,18 +323,23 @@ fn writing_refuses_as_the_rowset_writer_does() {
     }
 }
 
-/// What is reserved for a text that is refused: not forty bytes for each of its tabs.
+/// A text with more tables than usual is read too: rows and values of the fewest bytes.
 #[test]
-fn room_is_for_what_the_bytes_can_be() {
-    for text in [
-        &b"\t".repeat(1000)[..],
-        &b"\n".repeat(1000),
-        &b"0\n".repeat(500),
-        &b"0:n\n".repeat(250),
-        &b"\t\n\n\n".repeat(250),
+fn dense_texts() {
+    for (text, values) in [
+        (&b"0:n\n"[..], 1),
+        (b"\n", 0),
+        (b"#\n", 0),
+        (b"1:s\t2:a\n", 2),
     ] {
-        let room = Room::of(text);
-        let bytes = 8 * room.rows + 8 * WIDTH * room.values + text.len();
-        assert!(bytes <= 17 * text.len(), "{}", bytes / text.len());
+        let many = text.repeat(1000);
+        let room = Room::of(&many);
+        assert_eq!((room.rows, room.values), (1000, 1000 * values));
+        assert!(room.bytes() > USUAL * many.len());
+        let read = read_text(&many).unwrap();
+        assert_eq!(read.rowset().write_text(), Ok(many));
     }
+    let usual = b"0:sby-catch\t1:sBeifang,%20der\n".repeat(1000);
+    let room = Room::of(&usual);
+    assert!(room.bytes() <= USUAL * usual.len(), "{}", room.bytes());
 }
