@@ -59,13 +59,24 @@ pub fn read_bytes(word: &[u8]) -> Result<Vec<u8>, BadCase> {
         return Ok(Vec::new());
     }
     if !word.contains(&b'+') {
-        return piece(word);
+        return repeated(word);
     }
     let mut bytes = Vec::new();
     for word in word.split(|&byte| byte == b'+') {
-        bytes.extend(piece(word)?);
+        bytes.extend(repeated(word)?);
     }
     Ok(bytes)
+}
+
+/// A piece, or hex digits so many times over.
+fn repeated(word: &[u8]) -> Result<Vec<u8>, BadCase> {
+    match word.iter().position(|&byte| byte == b'*') {
+        None => piece(word),
+        Some(at) if word[0] != b'z' => {
+            Ok(piece(&word[..at])?.repeat(number(&word[at + 1..])? as usize))
+        }
+        Some(_) => Err(BadCase),
+    }
 }
 
 /// Hex digits, or so many zeros.

@@ -32,6 +32,11 @@ int main(void) {
     const uint8_t fish[3] = {'c', 'o', 'd'};
     uint64_t term[CABLEFINCH_VALUE_WORDS] = {7, CABLEFINCH_STRING, 0, 1, 2};
     uint8_t packed[2] = {0};
+    /* a row of a string and an aggregate, a null row and an empty one */
+    const uint8_t list[] = "5:sa%20b\t65535:!n\n#\n\n";
+    const size_t list_size = sizeof list - 1;
+    uint8_t again[sizeof list], term_bytes[4];
+    uint64_t rows[3] = {0}, cells[2 * CABLEFINCH_VALUE_WORDS] = {0};
 
     expect("version", cablefinch_face_6() == CABLEFINCH_FACE);
     expect("checksum", cablefinch_checksum(NULL, 0) == 0);
@@ -86,6 +91,44 @@ int main(void) {
     cablefinch_read_value(&o, NULL, 0, 0);
     IS(read_value, CABLEFINCH_REFUSED, CABLEFINCH_TRUNCATED);
     expect("is_plain", !cablefinch_is_plain(NULL, 0));
+    cablefinch_text_size(&o, NULL, 0, NULL, 0, NULL, 0);
+    IS(text_size, CABLEFINCH_ACCEPTED, 0);
+    expect("text_size of no rows", o.count == 0);
+    cablefinch_write_text(&o, NULL, 0, NULL, 0, NULL, 0, NULL, 0);
+    IS(write_text, CABLEFINCH_ACCEPTED, 0);
+    cablefinch_read_text(&o, NULL, 0, NULL, 0, NULL, 0, NULL, 0);
+    IS(read_text, CABLEFINCH_ACCEPTED, 0);
+    expect("read_text of no text", o.count == 0 && o.values[0] == 0 && o.values[1] == 0);
+    cablefinch_read_text(&o, list, list_size - 2, NULL, 0, NULL, 0, NULL, 0);
+    IS(read_text, CABLEFINCH_REFUSED, CABLEFINCH_BAD_TEXT);
+    expect("read_text cut", o.values[0] == list_size - 2);
+    cablefinch_read_text(&o, list, list_size, NULL, 0, NULL, 0, NULL, 0);
+    IS(read_text, CABLEFINCH_REFUSED, CABLEFINCH_NO_ROOM);
+    expect("read_text without rows", o.values[0] == CABLEFINCH_ROWS && o.values[1] == 3 && o.values[2] == 0);
+    cablefinch_read_text(&o, list, list_size, rows, 3, NULL, 0, NULL, 0);
+    IS(read_text, CABLEFINCH_REFUSED, CABLEFINCH_NO_ROOM);
+    expect("read_text without values", o.values[0] == CABLEFINCH_VALUES && o.values[1] == 2 && rows[0] == 0);
+    cablefinch_read_text(&o, list, list_size, rows, 3, cells, 2 * CABLEFINCH_VALUE_WORDS, NULL, 0);
+    IS(read_text, CABLEFINCH_REFUSED, CABLEFINCH_NO_ROOM);
+    expect("read_text without an area", o.values[0] == CABLEFINCH_OUTPUT && o.values[1] == 3 && cells[0] == 0);
+    memset(term_bytes, 0xa5, sizeof term_bytes);
+    cablefinch_read_text(&o, list, list_size, rows, 3, cells, 2 * CABLEFINCH_VALUE_WORDS, term_bytes,
+            sizeof term_bytes);
+    IS(read_text, CABLEFINCH_ACCEPTED, 0);
+    expect("read_text", o.count == 3 && o.values[0] == 3 && o.values[1] == 2 && rows[0] == 2 &&
+            rows[1] == CABLEFINCH_NULL && rows[2] == 0 && cells[0] == 5 && cells[1] == CABLEFINCH_STRING &&
+            cells[3] == 0 && cells[4] == 3 && cells[5] == 65535 && cells[6] == CABLEFINCH_VALUE_NULL && cells[7] == 1 &&
+            memcmp(term_bytes, "a b", 3) == 0 && term_bytes[3] == 0xa5);
+    cablefinch_text_size(&o, term_bytes, 3, rows, 3, cells, 2 * CABLEFINCH_VALUE_WORDS);
+    IS(text_size, CABLEFINCH_ACCEPTED, 0);
+    expect("text_size", o.count == list_size);
+    cablefinch_write_text(&o, term_bytes, 3, rows, 3, cells, 2 * CABLEFINCH_VALUE_WORDS, NULL, 0);
+    IS(write_text, CABLEFINCH_REFUSED, CABLEFINCH_NO_ROOM);
+    expect("write_text without room", o.values[0] == CABLEFINCH_OUTPUT && o.values[1] == list_size);
+    memset(again, 0xa5, sizeof again);
+    cablefinch_write_text(&o, term_bytes, 3, rows, 3, cells, 2 * CABLEFINCH_VALUE_WORDS, again, sizeof again);
+    IS(write_text, CABLEFINCH_ACCEPTED, 0);
+    expect("write_text", o.count == list_size && memcmp(again, list, list_size) == 0 && again[list_size] == 0xa5);
     cablefinch_pack(&o, NULL, 0, NULL, 0, NULL, 0);
     IS(pack, CABLEFINCH_ACCEPTED, 0);
     cablefinch_pack(&o, fish, sizeof fish, term, CABLEFINCH_VALUE_WORDS, NULL, 0);

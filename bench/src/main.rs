@@ -14,6 +14,7 @@ use cablefinch_bytes::bus::packet as packets_over_bytes;
 use oracle::bus::packet::{self, Packet, PacketFlags, PacketType};
 use oracle::guid::Guid;
 use oracle::wire::{self, MaybeRow, UnversionedValue, Value};
+use std::cell::LazyCell;
 use std::ffi::{c_char, c_void};
 use std::hint::black_box;
 use std::io::Write;
@@ -693,6 +694,164 @@ fn looked_at_rows(rowset: &rowsets_of_crate::Rowset<'_>) -> u64 {
     each.fold(0, u64::wrapping_add)
 }
 
+/// The bytes of a line of [`Listed`].
+const LINE: usize = 115;
+
+/// A rowset of 5 values a row, its tables over its bytes, and its text.
+struct Listed {
+    wire: Vec<u8>,
+    rows: Vec<u64>,
+    values: Vec<u64>,
+    text: Vec<u8>,
+}
+
+impl Listed {
+    fn of(count: usize) -> Self {
+        let wire = wire::encode_rowset(&rows(count, |_| false))
+            .unwrap()
+            .to_vec();
+        let (mut rows, mut values) = (vec![0u64; count], vec![0u64; VALUE * 5 * count]);
+        let outcome = face::decode_rowset(&wire, &mut rows, &mut values);
+        assert!(outcome.kind == face::ACCEPTED);
+        let size = face::text_size(&wire, &rows, &values);
+        let mut text = vec![0u8; size.count as usize];
+        let outcome = face::write_text(&wire, &rows, &values, &mut text);
+        assert!(outcome.kind == face::ACCEPTED && text.len() == LINE * count);
+        Self {
+            wire,
+            rows,
+            values,
+            text,
+        }
+    }
+
+    /// How many bytes of text there are for a byte of the rowset.
+    fn ratio(&self) -> f64 {
+        self.text.len() as f64 / self.wire.len() as f64
+    }
+
+    /// Nanoseconds of one call that encodes the rowset, and of one that writes its text.
+    fn written(&self, out: &mut [u8]) -> (f64, f64) {
+        let (area, rows, values) = (&self.wire, &self.rows, &self.values);
+        let encoded = once(|| face::encode_rowset(area, rows, values, out));
+        (encoded, once(|| face::write_text(area, rows, values, out)))
+    }
+
+    /// Nanoseconds of one call that decodes the rowset, and of one that reads its text.
+    fn read(&self, lent: &mut Lent) -> (f64, f64) {
+        let Lent { rows, values, area } = lent;
+        let decoded = once(|| face::decode_rowset(&self.wire, rows, values));
+        (
+            decoded,
+            once(|| face::read_text(&self.text, rows, values, area)),
+        )
+    }
+}
+
+/// Nanoseconds of one call, which must accept.
+fn once(call: impl FnOnce() -> face::Outcome) -> f64 {
+    let start = clock();
+    let outcome = black_box(call());
+    let taken = (clock() - start) as f64;
+    assert!(outcome.kind == face::ACCEPTED);
+    taken
+}
+
+/// The least of as many rounds, of each of two calls that are taken in turn.
+fn least(mut round: impl FnMut() -> (f64, f64)) -> (f64, f64) {
+    (0..2 * ROUNDS)
+        .map(|_| round())
+        .fold((f64::INFINITY, f64::INFINITY), |(a, b), (c, d)| {
+            (a.min(c), b.min(d))
+        })
+}
+
+/// The tables and the area that a text is read into.
+struct Lent {
+    rows: Vec<u64>,
+    values: Vec<u64>,
+    area: Vec<u8>,
+}
+
+impl Lent {
+    fn of(listed: &Listed) -> Self {
+        Self {
+            rows: vec![0; listed.rows.len()],
+            values: vec![0; listed.values.len()],
+            area: vec![0; listed.text.len()],
+        }
+    }
+}
+
+/// Tab-separated text, which the Rust has not. In its place stands 4 times what the port takes for as many
+/// bytes of the rowset itself, and then 2.5 times what the text of half the rows takes.
+fn texts(table: &mut Table) {
+    const COUNT: usize = 100_000;
+    let name = "text of 100,000 rows of 5 values";
+    let beside = "beside 4 times the rowset, byte for byte";
+    // Made where a line wants them.
+    let half = LazyCell::new(|| Listed::of(COUNT));
+    let whole = LazyCell::new(|| Listed::of(2 * COUNT));
+    let size = LINE * COUNT;
+    table.line(
+        &format!("{name} written, {beside}"),
+        size,
+        Some(1.0),
+        || {
+            let rowset = rowsets_of_crate::decode_rowset(&half.wire).unwrap();
+            assert!(rowset.write_text().unwrap() == half.text);
+            let mut out = half.text.clone();
+            let (encoded, port) = least(|| half.written(&mut out));
+            Times {
+                rust: 4.0 * half.ratio() * encoded,
+                port,
+                wrapped: time(1, || (), |()| rowset.write_text().unwrap()),
+            }
+        },
+    );
+    table.line(&format!("{name} read, {beside}"), size, Some(1.0), || {
+        let mut lent = Lent::of(&half);
+        let (decoded, port) = least(|| half.read(&mut lent));
+        assert!(lent.rows == half.rows);
+        Times {
+            rust: 4.0 * half.ratio() * decoded,
+            port,
+            wrapped: time(
+                1,
+                || (),
+                |()| cablefinch::text::read_text(&half.text).unwrap(),
+            ),
+        }
+    });
+    let name = "text of 200,000 rows of 5 values";
+    let beside = "beside 2.5 times 100,000";
+    let growth = |(once, twice): (f64, f64)| Times {
+        rust: 2.5 * once,
+        port: twice,
+        wrapped: f64::NAN,
+    };
+    table.line(
+        &format!("{name} written, {beside}"),
+        2 * size,
+        Some(1.0),
+        || {
+            let mut out = whole.text.clone();
+            growth(least(|| {
+                (half.written(&mut out).1, whole.written(&mut out).1)
+            }))
+        },
+    );
+    table.line(
+        &format!("{name} read, {beside}"),
+        2 * size,
+        Some(1.0),
+        || {
+            let (mut lent, mut more) = (Lent::of(&half), Lent::of(&whole));
+            growth(least(|| (half.read(&mut lent).1, whole.read(&mut more).1)))
+        },
+    );
+}
+
 fn guids(table: &mut Table) {
     let id = id();
     let text = id.to_string();
@@ -1054,6 +1213,7 @@ fn main() {
     checksums(&mut table);
     packets(&mut table);
     let rowset_rate = rowsets(&mut table);
+    texts(&mut table);
     packing(&mut table);
     guids(&mut table);
     notes(&mut table, rowset_rate);

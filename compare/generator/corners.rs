@@ -7,6 +7,7 @@ use crate::pack;
 use crate::packets::{SIGNATURE, Wire, id_of, part_table};
 use crate::rowsets::NULL;
 use crate::sums;
+use crate::terms;
 use crate::text::{hex, words};
 use crate::yson;
 
@@ -27,6 +28,7 @@ pub fn list() -> Vec<String> {
     pack::corners(&mut lines);
     yson::corners(&mut lines);
     errors::corners(&mut lines);
+    terms::corners(&mut lines);
     lines
 }
 

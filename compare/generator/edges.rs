@@ -6,6 +6,7 @@ use std::io::{self, Write};
 
 use crate::packets::{NULL_SIZE, PART, SIGNATURE, Wire, id_of, part_table};
 use crate::rowsets::{NULL, crossing_with};
+use crate::terms;
 use crate::text::{hex, hex_or_dash, words};
 
 pub const ID: &str = "01000000020000000300000004000000";
@@ -111,6 +112,7 @@ pub fn list() -> Vec<String> {
     packet_tables(&mut lines);
     rowsets(&mut lines);
     rowset_tables(&mut lines);
+    terms::edges(&mut lines);
     lines
 }
 
@@ -624,8 +626,8 @@ fn rowsets(lines: &mut Vec<String>) {
     }
 }
 
-fn rowset_tables(lines: &mut Vec<String>) {
-    let area = "0102030405060708090a";
+/// Rows and values over ten bytes: whole tables, and each rule of 18.
+pub fn row_tables() -> Vec<(Vec<u64>, Vec<u64>)> {
     let mut cases: Vec<(Vec<u64>, Vec<u64>)> = vec![
         (vec![], vec![]),
         (vec![0], vec![]),
@@ -668,7 +670,12 @@ fn rowset_tables(lines: &mut Vec<String>) {
     for id in [0, 0xffff, 0x1_0000, NULL] {
         cases.push((vec![1], vec![id, 3, 0, 5, 0]));
     }
-    for (rows, values) in cases {
+    cases
+}
+
+fn rowset_tables(lines: &mut Vec<String>) {
+    let area = "0102030405060708090a";
+    for (rows, values) in row_tables() {
         let (rows, values) = (words(&rows), words(&values));
         lines.push(format!("rowset-size {area} {rows} {values}"));
         for room in [0, 7, 8, 15, 16, 24, 32, 40, 100] {
@@ -739,7 +746,7 @@ pub fn huge(count: usize, output: &mut impl Write) -> io::Result<()> {
             ((PART as u64) << 28) + PART as u64
         ),
     ];
-    for line in cases.iter().take(count) {
+    for line in cases.into_iter().chain(terms::huge()).take(count) {
         writeln!(output, "{line}")?;
     }
     Ok(())

@@ -13,6 +13,7 @@ mod random;
 mod rowsets;
 mod seal;
 mod sums;
+mod terms;
 #[allow(dead_code)]
 #[path = "../text.rs"]
 mod text;
@@ -28,7 +29,7 @@ use text::{hex, hex_or_dash};
 type Make = fn(&mut Random) -> String;
 
 /// Each kind with its share of a run.
-const KINDS: [(&str, u64, Make); 31] = [
+const KINDS: [(&str, u64, Make); 34] = [
     ("crc", 30, crc),
     ("checksum", 20, checksum),
     ("fold", 10, sums::fold),
@@ -59,6 +60,9 @@ const KINDS: [(&str, u64, Make); 31] = [
     ("error-read", 60, errors::read),
     ("error-write", 40, errors::write),
     ("error-size", 20, errors::size),
+    ("text-read", 90, terms::read),
+    ("text-write", 50, terms::write),
+    ("text-size", 20, terms::size),
     ("bad", 2, bad),
 ];
 
@@ -86,6 +90,7 @@ fn main() {
         Some("huge") => edges::huge(count, &mut output),
         Some("yson-short") => fixed(yson::short(5), count, &mut output),
         Some("error-short") => fixed(errors::short(5), count, &mut output),
+        Some("text-short") => fixed(terms::short(5), count, &mut output),
         Some(kind) => match KINDS.iter().find(|entry| entry.0 == kind) {
             Some(&(_, _, make)) => one_kind(seed, count, make, &mut output),
             None => usage(),
@@ -102,7 +107,7 @@ fn main() {
 fn usage() -> ! {
     let kinds: Vec<&str> = KINDS.iter().map(|entry| entry.0).collect();
     eprintln!(
-        "usage: cases SEED COUNT [KIND], where KIND is examples, edges, corners, drawn, huge, yson-short, error-short, damaged, named or one of"
+        "usage: cases SEED COUNT [KIND], where KIND is examples, edges, corners, drawn, huge, yson-short, error-short, text-short, damaged, named or one of"
     );
     eprintln!("  {}", kinds.join(" "));
     exit(2);

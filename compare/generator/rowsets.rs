@@ -169,7 +169,7 @@ fn worn(random: &mut Random, bytes: &mut Vec<u8>) {
     }
 }
 
-fn room(random: &mut Random, count: u64) -> u64 {
+pub fn room(random: &mut Random, count: u64) -> u64 {
     // What a driver can hold.
     let count = count.min(5000);
     match random.below(10) {
@@ -234,13 +234,14 @@ pub fn value(random: &mut Random) -> String {
 
 // Writing.
 
-struct Tables {
-    area: String,
-    rows: Vec<u64>,
-    values: Vec<u64>,
+pub struct Tables {
+    pub area: String,
+    pub rows: Vec<u64>,
+    pub values: Vec<u64>,
 }
 
-fn tables(random: &mut Random) -> Tables {
+/// Tables over an area whose bytes `content` draws.
+pub fn tables(random: &mut Random, content: fn(&mut Random, usize) -> Vec<u8>) -> Tables {
     match random.below(400) {
         0 => return crossing(random),
         1 => return long(random),
@@ -251,7 +252,7 @@ fn tables(random: &mut Random) -> Tables {
     let area = if random.once_in(15) {
         format!("z{size}")
     } else {
-        hex_or_dash(&random.content(size as usize))
+        hex_or_dash(&content(random, size as usize))
     };
     let mut rows = Vec::new();
     let mut values = Vec::new();
@@ -426,7 +427,7 @@ fn measure(tables: &Tables) -> u64 {
 }
 
 pub fn write(random: &mut Random) -> String {
-    let tables = tables(random);
+    let tables = tables(random, Random::content);
     let size = measure(&tables);
     let room = match random.below(10) {
         0 => 0,
@@ -446,6 +447,6 @@ pub fn write(random: &mut Random) -> String {
 }
 
 pub fn size(random: &mut Random) -> String {
-    let Tables { area, rows, values } = tables(random);
+    let Tables { area, rows, values } = tables(random, Random::content);
     format!("rowset-size {area} {} {}", words(&rows), words(&values))
 }

@@ -54,6 +54,7 @@ enum {
     CABLEFINCH_BAD_GUID = 16,                 /* where the text goes wrong, why (below) */
     CABLEFINCH_NO_ROOM = 17,                  /* which table (below), how much is needed, how much was given */
     CABLEFINCH_BAD_TABLE = 18,                /* which rule (below), where */
+    CABLEFINCH_BAD_TEXT = 19,                 /* where: the first byte that no text could go on with, or the length */
     CABLEFINCH_BAD_YSON = 20,                 /* where: the failing token's start, or the input's length */
     CABLEFINCH_TOO_DEEP = 21,                 /* where the bracket stands that would be one too many open */
     CABLEFINCH_BAD_MESSAGE = 22,              /* where the field begins that is not whole or not to be taken */
@@ -236,6 +237,29 @@ cablefinch_outcome *cablefinch_read_value(cablefinch_outcome *o, const uint8_t *
  * scalars and of Null 0, padding zero, at most CABLEFINCH_MAX_ROWSET_SIZE bytes. Two such inputs with the same rows
  * are the same bytes. */
 bool cablefinch_is_plain(const uint8_t *input, size_t n);
+
+/* Rowsets as tab-separated text, a line for each row: `#` for a null row, an empty line for an empty one, else the
+ * row's values with a tab between two. A value is its column id, a colon, `!` if it is an aggregate, a letter for its
+ * type (n i u d b s a c, in the order of the types above) and what it holds: 16 small hex digits of a scalar's word,
+ * or bytes, those outside 0x21 to 0x7e and the percent sign as a percent sign and two capital hex digits. Every line
+ * ends in a line feed. One text stands for one list of rows. */
+
+/* count: how many bytes cablefinch_write_text would write, however much room there is. Refused as
+ * cablefinch_rowset_size refuses. */
+cablefinch_outcome *cablefinch_text_size(cablefinch_outcome *o, const uint8_t *area, size_t n,
+        const uint64_t *rows, size_t row_words, const uint64_t *values, size_t value_words);
+/* Writes the text of two tables whose bytes lie in the area; count: its bytes, which may be more than
+ * CABLEFINCH_MAX_ROWSET_SIZE. Refused as cablefinch_encode_rowset refuses, but for how much room is needed. */
+cablefinch_outcome *cablefinch_write_text(cablefinch_outcome *o, const uint8_t *area, size_t n,
+        const uint64_t *rows, size_t row_words, const uint64_t *values, size_t value_words, uint8_t *out,
+        size_t room);
+/* Reads the text that the input is, all of it, into two tables and an area, in which the bytes of all values lie back
+ * to back, from its front; values: how many rows, how many values; count: how many bytes of the area are filled.
+ * Other text is refused with CABLEFINCH_BAD_TEXT, rows beyond a rowset's limits with 10 to 13, whichever is met first;
+ * then CABLEFINCH_NO_ROOM, the area being CABLEFINCH_OUTPUT. A text has as many rows as line feeds, a value for every
+ * four of its bytes at most, and no more bytes in the area than it has itself. */
+cablefinch_outcome *cablefinch_read_text(cablefinch_outcome *o, const uint8_t *text, size_t n, uint64_t *rows,
+        size_t row_words, uint64_t *values, size_t value_words, uint8_t *area, size_t room);
 
 /* Packs the area behind a value table: the bytes that its values name, each distinct pair of offset and length once, in
  * the order of first use and without padding, go to the front of `out`, and the table's offsets are changed to where

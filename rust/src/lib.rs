@@ -5,6 +5,7 @@
 //!
 //! - [`packet`]: one packet off the front of a buffer, its parts lent from that buffer.
 //! - [`wire`]: the rows of a part, a null row never folded away.
+//! - [`text`]: rowsets as tab-separated text, for a desk that edits in spreadsheets.
 //! - [`pack()`](pack::pack): the bytes behind an editor's value table, packed.
 //! - [`yson`]: whether an Any or a Composite value is well formed, and the items of its outer map.
 //! - [`error`]: the error message of a failed call, which prints as a person reads it.
@@ -56,6 +57,7 @@ pub mod shown;
 #[allow(unsafe_code)]
 mod sys;
 mod table;
+pub mod text;
 pub mod why;
 pub mod wire;
 pub mod yson;

@@ -53,6 +53,9 @@ mod raw {
         pub(super) fn cablefinch_decode_rowset(o: *mut Outcome, input: *const u8, n: usize, rows: *mut u64, row_words: usize, values: *mut u64, value_words: usize) -> *mut Outcome;
         pub(super) fn cablefinch_encode_rowset(o: *mut Outcome, area: *const u8, n: usize, rows: *const u64, row_words: usize, values: *const u64, value_words: usize, out: *mut u8, room: usize) -> *mut Outcome;
         pub(super) fn cablefinch_rowset_size(o: *mut Outcome, area: *const u8, n: usize, rows: *const u64, row_words: usize, values: *const u64, value_words: usize) -> *mut Outcome;
+        pub(super) fn cablefinch_text_size(o: *mut Outcome, area: *const u8, n: usize, rows: *const u64, row_words: usize, values: *const u64, value_words: usize) -> *mut Outcome;
+        pub(super) fn cablefinch_write_text(o: *mut Outcome, area: *const u8, n: usize, rows: *const u64, row_words: usize, values: *const u64, value_words: usize, out: *mut u8, room: usize) -> *mut Outcome;
+        pub(super) fn cablefinch_read_text(o: *mut Outcome, text: *const u8, n: usize, rows: *mut u64, row_words: usize, values: *mut u64, value_words: usize, area: *mut u8, room: usize) -> *mut Outcome;
         pub(super) fn cablefinch_is_plain(input: *const u8, n: usize) -> bool;
         pub(super) fn cablefinch_pack(o: *mut Outcome, area: *const u8, n: usize, values: *mut u64, value_words: usize, out: *mut u8, room: usize) -> *mut Outcome;
         pub(super) fn cablefinch_why_packet(o: *mut Outcome, mode: u64, input: *const u8, n: usize, max_message_size: u64, max_part_count: u32) -> *mut Outcome;
@@ -208,6 +211,23 @@ pub(crate) fn encode_rowset(area: &[u8], rows: &[u64], values: &[u64], out: &mut
 
 pub(crate) fn rowset_size(area: &[u8], rows: &[u64], values: &[u64]) -> Outcome {
     ask!(cablefinch_rowset_size[area][rows][values])
+}
+
+pub(crate) fn text_size(area: &[u8], rows: &[u64], values: &[u64]) -> Outcome {
+    ask!(cablefinch_text_size[area][rows][values])
+}
+
+pub(crate) fn write_text(area: &[u8], rows: &[u64], values: &[u64], out: &mut [u8]) -> Outcome {
+    ask!(cablefinch_write_text [area] [rows] [values] [mut out])
+}
+
+pub(crate) fn read_text(
+    text: &[u8],
+    rows: &mut [u64],
+    values: &mut [u64],
+    area: &mut [u8],
+) -> Outcome {
+    ask!(cablefinch_read_text [text] [mut rows] [mut values] [mut area])
 }
 
 pub(crate) fn is_plain(input: &[u8]) -> bool {

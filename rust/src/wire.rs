@@ -4,13 +4,16 @@
 //! [`Rowset::rows`] yields it as `None`, in its place, and nothing here steps over one unasked. To
 //! flatten the rows would drop the null ones, and each later row would answer for another key.
 
+mod owned;
 mod read;
 #[cfg(test)]
 mod tests;
 mod write;
 
+pub use owned::OwnedRowset;
 pub use read::{Decoder, decode_rowset, is_plain};
 pub use write::{Encoder, encode_rowset, encode_rowset_into, encoded_size};
+pub(crate) use write::{accepted, with_tables};
 
 use crate::packet::MAX_PART_SIZE;
 use crate::sys::Outcome;
@@ -38,7 +41,7 @@ pub const MAX_VALUE_LENGTH: u32 = 16 * 1024 * 1024;
 pub const MAX_ROWSET_SIZE: usize = MAX_PART_SIZE as usize;
 
 /// The words of a value in a table.
-const WIDTH: usize = 5;
+pub(crate) const WIDTH: usize = 5;
 
 /// The bytes of a value in a table.
 const ENTRY: usize = WIDTH * size_of::<u64>();
@@ -232,6 +235,11 @@ impl<'a> Rowset<'a> {
         self.rows.is_empty()
     }
 
+    /// The area, the row table and the value table.
+    pub(crate) fn tables(&self) -> (&[u8], &[u64], &[u64]) {
+        (self.input, &self.rows, &self.values)
+    }
+
     /// All rows in their order: `None` is a null row, `Some` of no values an empty one. `flatten` on
     /// it would drop the null rows, and the rows behind them would stand under another key.
     pub fn rows(&self) -> Rows<'_, 'a> {
@@ -417,7 +425,7 @@ impl WireError {
         }
     }
 
-    fn of(outcome: &Outcome) -> Self {
+    pub(crate) fn of(outcome: &Outcome) -> Self {
         let [a, b, ..] = outcome.values;
         match outcome.number {
             9 => Self::Truncated {
@@ -438,7 +446,7 @@ impl WireError {
         }
     }
 
-    fn no_room(entries: usize, bytes: usize) -> Self {
+    pub(crate) fn no_room(entries: usize, bytes: usize) -> Self {
         Self::AllocationFailed {
             size: entries.saturating_mul(bytes),
         }

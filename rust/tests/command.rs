@@ -9,7 +9,7 @@ use std::fmt::Write as _;
 use std::fs;
 use std::io::{Read, Write};
 use std::path::{Path, PathBuf};
-use std::process::{Command, Stdio};
+use std::process::{Command, Output, Stdio};
 use std::thread;
 #[cfg(target_os = "linux")]
 use std::time::Duration;
@@ -66,7 +66,7 @@ struct Ran {
     words: String,
 }
 
-fn ran(mut program: Command, input: &[u8]) -> Ran {
+fn output(mut program: Command, input: &[u8]) -> Output {
     let mut child = program
         .stdin(Stdio::piped())
         .stdout(Stdio::piped())
@@ -79,9 +79,15 @@ fn ran(mut program: Command, input: &[u8]) -> Ran {
     let writer = thread::spawn(move || drop(pipe.write_all(&input)));
     let output = child.wait_with_output().expect("it ends");
     writer.join().expect("nothing panics");
+    output
+}
+
+/// What ran, its results as a text, which those of `rowset` are not.
+fn ran(program: Command, input: &[u8]) -> Ran {
+    let output = output(program, input);
     Ran {
         status: output.status.code().expect("it ends by itself"),
-        results: String::from_utf8(output.stdout).expect("results are UTF-8"),
+        results: String::from_utf8_lossy(&output.stdout).into_owned(),
         words: String::from_utf8(output.stderr).expect("words are UTF-8"),
     }
 }
@@ -229,6 +235,145 @@ fn values_are_shown_as_what_they_are() {
         0,
         &results,
         "",
+    );
+}
+
+/// What `cablefinch rowset` makes of a text, which must be right.
+fn rowset_of(words: &[&str], text: &[u8]) -> Vec<u8> {
+    let mut command = program(COMMAND);
+    command.args(words);
+    let output = output(command, text);
+    assert_eq!(String::from_utf8_lossy(&output.stderr), "");
+    assert_eq!(output.status.code(), Some(0));
+    output.stdout
+}
+
+#[test]
+fn rowsets_as_text_and_back() {
+    let (text, bytes) = (sample_text("terms.tsv"), sample("terms.rowset"));
+    check(asked(&["text", "samples/terms.rowset"]), 0, &text, "");
+    check(asked_with(&["text", "-"], &bytes), 0, &text, "");
+    assert_eq!(rowset_of(&["rowset", "samples/terms.tsv"], b""), bytes);
+    assert_eq!(rowset_of(&["rowset", "-"], text.as_bytes()), bytes);
+    // What a spreadsheet leaves at the ends of lines.
+    let saved = sample("saved.tsv");
+    assert_eq!(rowset_of(&["rowset", "--trim", "-"], &saved), bytes);
+    let windows = String::from_utf8(saved).expect("it is a text");
+    let windows = windows.replace('\n', "\t\t\r\n");
+    let trimmed = rowset_of(&["rowset", "--trim", "-"], windows.as_bytes());
+    assert_eq!(trimmed, bytes);
+    // No rows, which is no bytes of text.
+    assert_eq!(rowset_of(&["rowset", "-"], b""), [0; 8]);
+    check(asked_with(&["text", "-"], &[0; 8]), 0, "", "");
+}
+
+/// A spreadsheet loses some rows and cells without a word, so the command has some.
+#[test]
+fn what_a_spreadsheet_would_lose_is_told() {
+    let told = |text: &[u8], lost: &str| {
+        let bytes = rowset_of(&["rowset", "-"], text);
+        let words =
+            format!("cablefinch: standard input: it is written, but not for a spreadsheet\n{lost}");
+        let text = String::from_utf8_lossy(text);
+        check(asked_with(&["text", "-"], &bytes), 0, &text, &words);
+    };
+    let empty = "    its last line is empty, and a spreadsheet saves no empty lines at the end\n";
+    told(b"0:n\n\n", empty);
+    let long = [&b"#\n0:n\t1:s"[..], &b"a".repeat(32_765), b"\n\n"].concat();
+    told(
+        &long,
+        &format!(
+            "    line 2 has a value of 32768 characters, and a cell has 32767 in some spreadsheets, 65535 in \
+             others: it is cut there\n{empty}"
+        ),
+    );
+    told(
+        &b"#\n".repeat(1_048_577),
+        "    it has 1048577 lines, and a sheet has 1048576: the others are lost there\n",
+    );
+}
+
+#[test]
+fn bytes_that_are_no_rowset_have_no_text() {
+    check(
+        asked(&["text", "samples/good.bin"]),
+        1,
+        "",
+        "cablefinch: samples/good.bin: it is no rowset, refused by 10\n    rowset declares 281476996361551 rows, \
+         more than the 5242880 allowed\n    is it the bytes of one part?\n",
+    );
+}
+
+#[test]
+fn a_refused_text_names_line_column_and_cell_with_a_caret() {
+    check(
+        asked(&["rowset", "samples/broken.tsv"]),
+        1,
+        "",
+        "cablefinch: samples/broken.tsv: it is no rowset's text, refused by 19 at byte 31\n    line 3, column 7, \
+         cell A3: a space; write it as %20\n    0:sgum line\\t1:sZ\\xc3\\xa4hne\\n\n          ^\n",
+    );
+    let plain = &["rowset", "-"][..];
+    let refused = |text: &[u8], place: usize, told: &str| {
+        let told = format!(
+            "cablefinch: standard input: it is no rowset's text, refused by 19 at byte {place}\n    {told}^\n"
+        );
+        check(asked_with(plain, text), 1, "", &told);
+    };
+    let trim = "    --trim takes away tabs and carriage returns at the ends of lines, as spreadsheets leave them\n";
+    let tab = "a tab; tabs stand between two values alone: take this one away";
+    refused(
+        &sample("saved.tsv"),
+        24,
+        &format!("line 2, column 2, cell A2: {tab}\n{trim}    #\\t\\n\n     "),
+    );
+    refused(
+        b"0:n\t1:n\r\n",
+        7,
+        &format!(
+            "line 1, column 8, cell B1: a carriage return; save it with line feeds alone at the ends of lines\n\
+             {trim}    0:n\\t1:n\\r\\n\n{:12}",
+            ""
+        ),
+    );
+    // A tab too many between values is not the spreadsheet's.
+    refused(
+        b"0:n\t\t1:n\n",
+        4,
+        &format!(
+            "line 1, column 5, cell B1: {tab}\n    0:n\\t\\t1:n\\n\n{:9}",
+            ""
+        ),
+    );
+    // Of a long line what stands around the place.
+    let long = [b"0:s".to_vec(), b"a".repeat(50), b"\x1b[31m\n".to_vec()].concat();
+    refused(
+        &long,
+        53,
+        &format!(
+            "line 1, column 54, cell A1: the byte 0x1b; write it as %1B\n    .. {}\\x1b[31m\\n\n{:27}",
+            "a".repeat(20),
+            ""
+        ),
+    );
+    // Trimmed, it has other bytes, and the same lines and columns.
+    check(
+        asked_with(&["rowset", "--trim", "-"], b"#\t\t\n\r\n0:n\t0:s1\t2"),
+        1,
+        "",
+        &format!(
+            "cablefinch: standard input: it is no rowset's text, refused by 19\n    line 3, column 11, cell C3: its \
+             end; every line ends in a line feed, the last one too\n    0:n\\t0:s1\\t2\n{:16}^\n",
+            ""
+        ),
+    );
+    let many = [b"#\n".to_vec(), b"0:n\t".repeat(1024), b"0".to_vec()].concat();
+    check(
+        asked_with(plain, &many),
+        1,
+        "",
+        "cablefinch: standard input: it is no rowset, refused by 11\n    line 2: row 1 declares 1025 values, more than \
+         the 1024 allowed; split the list\n",
     );
 }
 
@@ -676,7 +821,7 @@ fn the_man_page_is_one() {
 #[test]
 fn the_transcripts_of_the_pages_are_true() {
     let mut shown = String::new();
-    for page in ["README.md", "docs/COMMAND.md"] {
+    for page in ["README.md", "docs/COMMAND.md", "docs/TEXT.md"] {
         let text = fs::read_to_string(repository().join(page)).expect("the page is there");
         let blocks = text.split("```console\n").skip(1);
         for block in blocks {
@@ -744,6 +889,11 @@ fn colours_are_for_terminals_that_want_them() {
     assert_eq!(on_terminal(line, &[("TERM", "dumb")]), plain);
     assert_eq!(on_terminal(line, &[("NO_COLOR", "")]), coloured);
     assert_eq!(on_terminal(&format!("{line} | cat"), &[]), plain);
+    // The bytes of a rowset are for no terminal.
+    assert_eq!(
+        on_terminal("cablefinch rowset samples/terms.tsv", &[("NO_COLOR", "1")]),
+        "cablefinch: rowset: its result is bytes and no text: write `> FILE` behind it\n"
+    );
     assert_eq!(
         on_terminal("cablefinch guid 1-x", &[]),
         "\x1b[31mcablefinch:\x1b[0m not a GUID: 'x' at byte 2 is not a hex digit\n    1-x\n      \x1b[31m^\x1b[0m\n"

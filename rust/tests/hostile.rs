@@ -1,7 +1,8 @@
-//! How much memory the reader of error messages takes for hostile ones, by an allocator that counts. One
-//! test alone, since what it counts is the whole program's.
+//! How much memory the readers of error messages and of text take for hostile ones, by an allocator that
+//! counts. One test alone, since what it counts is the whole program's.
 
 use cablefinch::error::{ErrorRefusal, TError};
+use cablefinch::text;
 use std::alloc::{GlobalAlloc, Layout, System};
 use std::sync::atomic::{AtomicUsize, Ordering::Relaxed};
 
@@ -58,7 +59,34 @@ fn field(tag: u8, content: &[u8]) -> Vec<u8> {
 }
 
 #[test]
-fn hostile_messages_take_little() {
+fn hostile_bytes_take_little() {
+    hostile_messages();
+    hostile_texts();
+}
+
+/// Refused at their first byte or at their last, texts take four times their bytes at most.
+fn hostile_texts() {
+    let pieces: [&[u8]; 7] = [
+        b"\t",
+        b"\n",
+        b"#\n",
+        b"0:n\t",
+        b"0:n\n",
+        b"\t\n\n\n",
+        b"0:sby-catch\t1:sBeifang,%20der\n",
+    ];
+    for piece in pieces {
+        for (front, back) in [("x", ""), ("", "x")] {
+            let middle = piece.repeat(100_000);
+            let bytes = [front.as_bytes(), &middle, back.as_bytes()].concat();
+            let (refused, most) = most(|| text::read_text(&bytes).unwrap_err());
+            assert!(matches!(refused.code(), 19 | 11));
+            assert!(most <= 4 * bytes.len(), "{most}, {}", bytes.len());
+        }
+    }
+}
+
+fn hostile_messages() {
     const COUNT: usize = 200_000;
     // A few words more than a multiple of the message.
     const SLACK: usize = 1 << 10;

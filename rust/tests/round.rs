@@ -1,7 +1,8 @@
-//! What is written is read back, over generated packets and rowsets; any bytes have an answer; and
+//! What is written is read back, over generated packets, rowsets and their texts; any bytes have an answer; and
 //! a connection that is fed one byte at a time hears what was sent.
 
 use cablefinch::packet::{self, Packet, PacketFlags, PacketType, Part};
+use cablefinch::text::{self, TextError};
 use cablefinch::wire::{self, UnversionedValue, Value};
 use cablefinch::{Guid, checksum};
 
@@ -101,6 +102,37 @@ fn rowsets_come_back() {
             .collect();
         assert_eq!(read, rows);
         assert_eq!(rowset.encode().unwrap(), bytes);
+        texts_come_back(&mut draw, &rowset, &bytes);
+    }
+}
+
+/// A rowset's text gives the rowset again. Changed in a byte, it is the text of another, which is written as
+/// that text, or it is refused at or behind that byte; so is every beginning that ends inside a line, at its end.
+fn texts_come_back(draw: &mut Draw, rowset: &wire::Rowset<'_>, bytes: &[u8]) {
+    let mut text = rowset.write_text().unwrap();
+    assert_eq!(rowset.text_size(), Ok(text.len()));
+    let read = text::read_text(&text).unwrap();
+    assert_eq!(&read.rowset(), rowset);
+    assert_eq!(read.rowset().encode().unwrap(), bytes);
+    assert_eq!(read.rowset().write_text().unwrap(), text);
+    if text.is_empty() {
+        return;
+    }
+    let cut = draw.below(text.len() as u64) as usize;
+    let front = &text[..cut];
+    match text::read_text(front) {
+        Ok(read) => assert_eq!(read.rowset().write_text().unwrap(), front),
+        Err(error) => assert_eq!((error.code(), error.place()), (19, Some(cut))),
+    }
+    let likely = b"\t\n#:!%0129afAFnidubsac \r~\x7f";
+    text[cut] = likely[draw.below(likely.len() as u64) as usize];
+    match text::read_text(&text) {
+        Ok(read) => assert_eq!(read.rowset().write_text().unwrap(), text),
+        Err(TextError::Limit(limit)) => panic!("{limit}"),
+        Err(error) => {
+            let place = error.place().unwrap();
+            assert!(cut <= place && place <= text.len());
+        }
     }
 }
 

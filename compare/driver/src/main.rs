@@ -136,6 +136,23 @@ fn answer(line: &[u8]) -> Answer {
                 face::rowset_size(&read_bytes(area)?, &read_words(rows)?, &read_words(values)?);
             Ok(or_refusal(&outcome, || format!("ok {}", outcome.count)))
         }
+        (b"text-write", [room, area, rows, values]) => text_write(
+            number(room)?,
+            &read_bytes(area)?,
+            &read_words(rows)?,
+            &read_words(values)?,
+        ),
+        (b"text-size", [area, rows, values]) => {
+            let outcome =
+                face::text_size(&read_bytes(area)?, &read_words(rows)?, &read_words(values)?);
+            Ok(or_refusal(&outcome, || format!("ok {}", outcome.count)))
+        }
+        (b"text-read", [rows, values, room, text]) => text_read(
+            number(rows)?,
+            number(values)?,
+            number(room)?,
+            &read_bytes(text)?,
+        ),
         (b"value", [at, bytes]) => value(number(at)?, &read_bytes(bytes)?),
         (b"plain", [bytes]) => Ok(format!(
             "ok {}",
@@ -241,7 +258,7 @@ fn table(words: u64, most: usize) -> Vec<u64> {
 /// How many values a refusal's number carries.
 fn carried(number: u64) -> usize {
     match number {
-        1 | 2 | 3 | 10 | 12 | 13 | 14 | 15 | 20..=24 => 1,
+        1 | 2 | 3 | 10 | 12 | 13 | 14 | 15 | 19..=24 => 1,
         4 | 5 | 6 | 8 | 9 | 11 | 16 | 18 => 2,
         7 | 17 => 3,
         _ => 0,
@@ -506,6 +523,55 @@ fn rowset_write(room: u64, area: &[u8], rows: &[u64], values: &[u64]) -> Answer 
     let mut out = Placed::filled(room.min(most) as usize);
     let outcome = face::encode_rowset(area, rows, values, &mut out);
     Ok(written(&outcome, &out))
+}
+
+/// The text of the tables. The size must answer the same, room aside.
+fn text_write(room: u64, area: &[u8], rows: &[u64], values: &[u64]) -> Answer {
+    // A value without its bytes has at most 25, a line's end among them, and each of its bytes three.
+    let lengths = values.iter().skip(4).step_by(VALUE as usize).copied();
+    let most = 64 + 2 * rows.len() as u64 + 5 * values.len() as u64 + 3 * most(area, 0, lengths);
+    let mut out = Placed::filled(room.min(most) as usize);
+    let sized = face::text_size(area, rows, values);
+    let outcome = face::write_text(area, rows, values, &mut out);
+    let alike = match outcome.number {
+        17 => sized.kind == face::ACCEPTED && sized.count == outcome.values[1],
+        _ => {
+            sized.kind == outcome.kind
+                && sized.count == outcome.count
+                && sized.values == outcome.values
+        }
+    };
+    if !alike {
+        return Ok("other answer of the size".to_string());
+    }
+    Ok(written(&outcome, &out))
+}
+
+fn text_read(rows: u64, values: u64, room: u64, input: &[u8]) -> Answer {
+    // A row has a byte of text, a value four, and a byte of the area one.
+    let mut rows = table(rows, input.len() + 8);
+    let most = VALUE as usize * (input.len() / 4 + 8);
+    let mut values = table(values.saturating_mul(VALUE), most);
+    values.extend(vec![FILL_WORD; input.len() % VALUE as usize]);
+    let mut area = Placed::filled(room.min(input.len() as u64 + 8) as usize);
+    let outcome = face::read_text(input, &mut rows, &mut values, &mut area);
+    if outcome.kind != face::ACCEPTED {
+        let kept = words_kept(&rows) && words_kept(&values) && bytes_kept(&area);
+        return Ok(mark(or_refusal(&outcome, String::new), kept));
+    }
+    let [row_count, value_count, ..] = outcome.values;
+    let (rows, rows_rest) = rows.split_at(row_count as usize);
+    let (values, values_rest) = values.split_at((VALUE * value_count) as usize);
+    let (bytes, area_rest) = area.split_at(outcome.count as usize);
+    let text = format!(
+        "ok {row_count} {value_count} {} {} {} {}",
+        outcome.count,
+        words(rows),
+        words(values),
+        hex_or_dash(bytes)
+    );
+    let kept = words_kept(rows_rest) && words_kept(values_rest) && bytes_kept(area_rest);
+    Ok(mark(text, kept))
 }
 
 /// The table is lent as it is given; a refusal must leave it so.

@@ -1,8 +1,8 @@
 //! Answers the comparison's cases with the Rust at the pinned commit: cases on standard input, one
 //! a line, and one answer line for each. The Rust is called and its results are written down; no
 //! answer is worked out here. Where the Rust has none (short room, a table that breaks a rule, the
-//! plain-form check, YSON, error messages, text that is no UTF-8, a start past the end, type 2 in live
-//! mode), the answer is `skip`; where document 02 departs from the Rust, `excepted`.
+//! plain-form check, YSON, error messages, term lists, text that is no UTF-8, a start past the end,
+//! type 2 in live mode), the answer is `skip`; where document 02 departs from the Rust, `excepted`.
 
 #[allow(dead_code)]
 #[path = "../../text.rs"]
@@ -151,6 +151,26 @@ fn answer(line: &[u8]) -> Outcome {
             read_bytes(area)?;
             read_words(errors)?;
             read_words(attributes)?;
+            Err(Without::Skip)
+        }
+        (b"text-read", [rows, values, room, bytes]) => {
+            number(rows)?;
+            number(values)?;
+            number(room)?;
+            read_bytes(bytes)?;
+            Err(Without::Skip)
+        }
+        (b"text-write", [room, area, rows, values]) => {
+            number(room)?;
+            read_bytes(area)?;
+            read_words(rows)?;
+            read_words(values)?;
+            Err(Without::Skip)
+        }
+        (b"text-size", [area, rows, values]) => {
+            read_bytes(area)?;
+            read_words(rows)?;
+            read_words(values)?;
             Err(Without::Skip)
         }
         (b"guid-text" | b"guid-bytes", [id, room]) => {

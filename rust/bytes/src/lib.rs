@@ -4,7 +4,7 @@
 
 #![deny(unsafe_code, missing_docs)]
 
-pub use cablefinch::{crc64, guid, wire, yson};
+pub use cablefinch::{crc64, guid, text, wire, yson};
 
 /// The transport, of which this crate has the packets.
 pub mod bus {

@@ -154,7 +154,7 @@ impl Pieces {
     }
 }
 
-fn accepted(outcome: Outcome) -> Result<Outcome, WireError> {
+pub(crate) fn accepted(outcome: Outcome) -> Result<Outcome, WireError> {
     match outcome.kind {
         sys::ACCEPTED => Ok(outcome),
         _ => Err(WireError::of(&outcome)),
@@ -178,6 +178,21 @@ impl Laid<'_> {
         }
         written
     }
+}
+
+/// Hands the area and the tables of some rows to `work`, and the answer back.
+pub(crate) fn with_tables<'a, R, T>(
+    rows: &[Option<R>],
+    work: impl FnOnce((&[u8], &[u64], &[u64])) -> Result<T, WireError>,
+) -> Result<T, WireError>
+where
+    R: AsRef<[UnversionedValue<'a>]>,
+{
+    let mut pieces = Pieces::new();
+    let Laid {
+        area, rows, values, ..
+    } = pieces.lay(rows)?;
+    work((area, rows, values))
 }
 
 impl Rowset<'_> {

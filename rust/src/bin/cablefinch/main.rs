@@ -16,6 +16,7 @@ mod plain;
 mod screen;
 mod shown;
 mod sum;
+mod text;
 mod why;
 mod words;
 mod yson;

@@ -55,6 +55,11 @@ impl Screen {
         }
     }
 
+    /// Whether the results go to a terminal, which would obey some bytes of them.
+    pub fn shows_results(&self) -> bool {
+        io::stdout().is_terminal()
+    }
+
     /// The results that are not yet written, to add to.
     pub fn text(&mut self) -> &mut Vec<u8> {
         &mut self.text
@@ -63,6 +68,15 @@ impl Screen {
     /// Adds a word of the results in a colour.
     pub fn paint(&mut self, colour: Colour, word: &str) {
         paint(&mut self.text, self.result_colours.then_some(colour), word);
+    }
+
+    /// Writes results that are bytes and may be many, without a copy of them.
+    pub fn put(&mut self, bytes: &[u8]) -> io::Result<()> {
+        self.flush()?;
+        self.rest();
+        let mut results = io::stdout().lock();
+        results.write_all(bytes)?;
+        results.flush()
     }
 
     /// Writes the results once there are enough of them.

@@ -23,6 +23,18 @@ pub fn place(bytes: &[u8], place: usize) -> String {
     format!("    {front}{before}{behind}{back}\n    {:column$}^", "")
 }
 
+/// The line of a text that a place is in, and a caret under it.
+pub fn line(text: &[u8], place: usize) -> String {
+    let (before, rest) = text.split_at(place.min(text.len()));
+    let feed = |&byte: &u8| byte == b'\n';
+    let from = before.iter().rposition(feed).map_or(0, |feed| feed + 1);
+    let till = rest
+        .iter()
+        .position(feed)
+        .map_or(text.len(), |feed| before.len() + feed + 1);
+    self::place(&text[from..till], before.len() - from)
+}
+
 /// Bytes of any kind, those that are printable as they are.
 fn escaped(bytes: &[u8]) -> String {
     let mut line = String::new();

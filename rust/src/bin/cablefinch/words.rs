@@ -3,7 +3,7 @@
 
 use crate::arguments::Arguments;
 use crate::screen::Screen;
-use crate::{Stop, Verdict, completion, error, guid, list, man, plain, sum, why, yson};
+use crate::{Stop, Verdict, completion, error, guid, list, man, plain, sum, text, why, yson};
 use std::ffi::OsStr;
 
 /// Something that the command can be asked.
@@ -136,6 +136,13 @@ pub const MAX_PARTS: Choice = Choice::new(
     "takes packets of at most so many parts",
 );
 
+/// Takes a spreadsheet's leavings away.
+pub const TRIM: Choice = Choice::new(
+    "--trim",
+    None,
+    "takes away tabs and carriage returns at the ends of lines, as spreadsheets leave them",
+);
+
 /// Any number of operands.
 const MANY: usize = usize::MAX;
 
@@ -170,6 +177,44 @@ pub const WORDS: &[Word] = &[
             "cablefinch list --rows samples/terms.bin",
         ],
         run: list::run,
+    },
+    Word {
+        name: "text",
+        operands: "FILE",
+        count: (1, 1),
+        kind: Operand::File,
+        summary: "writes a rowset as tab-separated text, for a spreadsheet",
+        details: &[
+            "A file holds one rowset, the bytes of a packet's part. Prints a line for each row: `#` for a null \
+             row, an empty line for an empty one, else its values with a tab between two. A value is its column, \
+             a colon, `!` if it is an aggregate, a letter for its type and what it holds: `n` Null, `i` Int64, \
+             `u` Uint64, `d` Double and `b` Boolean, with 16 hex digits behind all but `n`, `s` String, `a` Any \
+             and `c` Composite, with their bytes behind.",
+            "Of these bytes, those that are not printable, spaces among them, and the percent sign are a percent \
+             sign and two hex digits: `0:sgum%20line`.",
+        ],
+        options: &[],
+        examples: &["cablefinch text samples/terms.rowset"],
+        run: text::run,
+    },
+    Word {
+        name: "rowset",
+        operands: "FILE",
+        count: (1, 1),
+        kind: Operand::File,
+        summary: "reads tab-separated text and writes the rowset that it is",
+        details: &[
+            "A file holds what `cablefinch text` prints, as it was or with rows and values changed. Prints the \
+             bytes of the rowset, so redirect them to a file. Text of another form is refused at the first byte \
+             that cannot be right, whatever follows: line, column and the spreadsheet's cell are told, what to \
+             write there, and a caret stands under the byte.",
+        ],
+        options: &[TRIM],
+        examples: &[
+            "cablefinch rowset samples/terms.tsv",
+            "cablefinch rowset --trim samples/saved.tsv",
+        ],
+        run: text::back,
     },
     Word {
         name: "plain",

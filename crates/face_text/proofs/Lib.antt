@@ -1,0 +1,2 @@
+-- One result for each statement of the exported functions.
+pub mod Unique

@@ -1,0 +1,2 @@
+-- What is guaranteed of a rowset's text.
+pub mod Texts

@@ -1,0 +1,20 @@
+-- `fill::digit_value` meets its contract. Assumes nothing.
+use Rattle.text_read.proofs.FillLaws.{plain-digit}
+use borrow.Author.Needs.{needs}
+use Rattle.text_read.proofs.fill.digit_value.Statement.{statement}
+use Rattle.text_read.proofs.fill.digit_value.Tie as tie
+
+mul-result : tie.Need-mul-result
+mul-result c = search needs
+
+add-result : tie.Need-add-result
+add-result c = search needs
+
+cast-result : tie.Need-cast-result
+cast-result c = search needs
+
+returns : tie.Need-returns
+returns c = plain-digit _ (c .pre)
+
+pub digit-value-spec : {M : Type 1} → statement M
+digit-value-spec = tie.close (tie.spec mul-result add-result cast-result returns)

@@ -1,0 +1,70 @@
+-- `fill::read_id` meets its contract. The invariant: the reading is still in the id. Assumes nothing.
+use mathlib.Core.Path.{refl}
+use Prim.Native.Nat.{_-_}
+use native.Mathlib.Omega.{arith}
+use lib.ListN.{length}
+use Rattle.text_read.proofs.FillLaws.{IdLeft, id-there, id-colon, id-low, id-small, id-more}
+use borrow.Author.Needs.{needs}
+use Rattle.text_read.proofs.fill.read_id.Statement.{statement}
+use Rattle.text_read.proofs.fill.read_id.Tie as tie
+
+abbrev Inv-loop : tie.InvT-loop
+Inv-loop text start first at₀ id₀ at id = IdLeft text start first at id
+
+abbrev μ-loop : tie.MeasureT-loop
+μ-loop text start first at₀ id₀ at id = length text - at
+
+loop-holds : tie.Need-loop-holds Inv-loop μ-loop
+loop-holds c = (omega arith, λ rows cells final from-start. from-start)
+
+shared-slice-read-byte : tie.Need-shared-slice-read-byte Inv-loop μ-loop
+shared-slice-read-byte c = omega arith
+
+add-t11 : tie.Need-add-t11 Inv-loop μ-loop
+add-t11 c = omega (arith, c .before .before .loop-test .taken, c .before .before .before .before .good)
+
+returns : tie.Need-returns Inv-loop μ-loop
+returns c = id-colon (c .before .before .before .before .args .text .now) (c .before .before .before .before .args .start) (c .before .before .before .before .args .first) (c .before .before .before .before .pre) (c .before .before .before .loop .at) (c .before .before .before .loop .id) (c .before .before .before .loop .inv) (c .if1 .taken)
+
+mul-id : tie.Need-mul-id Inv-loop μ-loop
+mul-id c = omega (arith, id-small (c .before .before .before .before .args .text .now) (c .before .before .before .before .args .start) (c .before .before .before .before .args .first) (c .before .before .before .before .pre) (c .before .before .before .loop .at) (c .before .before .before .loop .id) (c .before .before .before .loop .inv) (c .if1 .left))
+
+sub-id : tie.Need-sub-id Inv-loop μ-loop
+sub-id c = id-low (c .before .before .before .before .args .text .now) (c .before .before .before .before .args .start) (c .before .before .before .before .args .first) (c .before .before .before .before .pre) (c .before .before .before .loop .at) (c .before .before .before .loop .id) (c .before .before .before .loop .inv) (c .if1 .left)
+
+cast-id : tie.Need-cast-id Inv-loop μ-loop
+cast-id c = omega (arith, id-small (c .before .before .before .before .args .text .now) (c .before .before .before .before .args .start) (c .before .before .before .before .args .first) (c .before .before .before .before .pre) (c .before .before .before .loop .at) (c .before .before .before .loop .id) (c .before .before .before .loop .inv) (c .if1 .left))
+
+add-id : tie.Need-add-id Inv-loop μ-loop
+add-id c = omega (arith, id-small (c .before .before .before .before .args .text .now) (c .before .before .before .before .args .start) (c .before .before .before .before .args .first) (c .before .before .before .before .pre) (c .before .before .before .loop .at) (c .before .before .before .loop .id) (c .before .before .before .loop .inv) (c .if1 .left))
+
+add-at : tie.Need-add-at Inv-loop μ-loop
+add-at c = omega (arith, c .before .before .loop-test .taken, c .before .before .before .before .good)
+
+loop-less : tie.Need-loop-less Inv-loop μ-loop
+loop-less c = omega (arith, c .before .before .loop-test .taken)
+
+loop-again : tie.Need-loop-again Inv-loop μ-loop
+loop-again c = id-more (c .before .before .before .before .args .text .now) (c .before .before .before .before .args .start) (c .before .before .before .before .args .first) (c .before .before .before .before .pre) (c .before .before .before .loop .at) (c .before .before .before .loop .id) (c .before .before .before .loop .inv) (c .if1 .left)
+
+returns-2 : tie.Need-returns-2 Inv-loop μ-loop
+returns-2 c = absurd (omega (arith, id-there (c .before .before .args .text .now) (c .before .before .args .start) (c .before .before .args .first) (c .before .before .pre) (c .before .loop .at) (c .before .loop .id) (c .before .loop .inv), c .loop-test .left))
+
+pub read-id-spec : {M : Type 1} → statement M
+read-id-spec =
+    tie.close
+    (tie.spec
+    Inv-loop
+    μ-loop
+    loop-holds
+    shared-slice-read-byte
+    add-t11
+    returns
+    mul-id
+    sub-id
+    cast-id
+    add-id
+    add-at
+    loop-less
+    loop-again
+    returns-2)

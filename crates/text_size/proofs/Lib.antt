@@ -1,0 +1,4 @@
+-- The laws of the text's size, and one result for each statement.
+pub mod SizeLaws
+pub mod AnswerLaws
+pub mod Unique

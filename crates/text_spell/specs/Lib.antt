@@ -1,0 +1,2 @@
+-- What each function on a text's bytes promises.
+pub mod Statement

@@ -1,0 +1,3 @@
+-- The laws of the walk over a text, and one result for each statement.
+pub mod CheckLaws
+pub mod Unique

@@ -1,0 +1,2 @@
+-- What writing a rowset as text answers.
+pub mod Statement
