@@ -33,7 +33,7 @@ int main(void) {
     uint64_t term[CABLEFINCH_VALUE_WORDS] = {7, CABLEFINCH_STRING, 0, 1, 2};
     uint8_t packed[2] = {0};
 
-    expect("version", cablefinch_face_5() == CABLEFINCH_FACE);
+    expect("version", cablefinch_face_6() == CABLEFINCH_FACE);
     expect("checksum", cablefinch_checksum(NULL, 0) == 0);
     expect("update", cablefinch_update(7, NULL, 0) == 7);
     expect("finish", cablefinch_finish(0) == 0);
@@ -94,6 +94,12 @@ int main(void) {
     cablefinch_pack(&o, fish, sizeof fish, term, CABLEFINCH_VALUE_WORDS, packed, sizeof packed);
     IS(pack, CABLEFINCH_ACCEPTED, 0);
     expect("pack of one", o.count == 2 && term[3] == 0 && packed[0] == 'o' && packed[1] == 'd');
+    cablefinch_why_packet(&o, CABLEFINCH_LIVE, NULL, 0, 0, 0);
+    IS(why_packet, CABLEFINCH_MORE, 0);
+    expect("why_packet's field", o.values[0] == CABLEFINCH_FIELD_FIXED_HEADER && o.values[1] == 36);
+    cablefinch_why_rowset(&o, NULL, 0);
+    IS(why_rowset, CABLEFINCH_REFUSED, CABLEFINCH_TRUNCATED);
+    expect("why_rowset's field", o.values[0] == CABLEFINCH_FIELD_ROW_COUNT && o.values[3] == 8);
     cablefinch_yson_check(&o, NULL, 0);
     IS(yson_check, CABLEFINCH_REFUSED, CABLEFINCH_BAD_YSON);
     cablefinch_yson_items(&o, NULL, 0, NULL, 0);

@@ -13,10 +13,10 @@ extern "C" {
 
 /* The version of this interface. The function's name carries it, and every file that includes this header refers to the
  * function: an archive of another version does not link. */
-#define CABLEFINCH_FACE 5
-uint64_t cablefinch_face_5(void);
+#define CABLEFINCH_FACE 6
+uint64_t cablefinch_face_6(void);
 #if defined(__GNUC__)
-static uint64_t (*const cablefinch_face_linked)(void) __attribute__((used)) = cablefinch_face_5;
+static uint64_t (*const cablefinch_face_linked)(void) __attribute__((used)) = cablefinch_face_6;
 #endif
 
 /* Answers. */
@@ -246,6 +246,46 @@ bool cablefinch_is_plain(const uint8_t *input, size_t n);
  * `values` and `out` must not overlap. */
 cablefinch_outcome *cablefinch_pack(cablefinch_outcome *o, const uint8_t *area, size_t n, uint64_t *values,
         size_t value_words, uint8_t *out, size_t room);
+
+/* Why bytes are refused, for a person. Of a finding `kind` is CABLEFINCH_ACCEPTED where nothing is wrong,
+ * CABLEFINCH_MORE, CABLEFINCH_REFUSED with its number, or CABLEFINCH_NOT_PLAIN for a rowset that is accepted but has not
+ * the plain form. values: the field (below), its offset (for CABLEFINCH_MORE the length that is waited for), what was
+ * found there, what was wanted, and CABLEFINCH_WANTED_NUMBER or what stands in its place. */
+enum { CABLEFINCH_NOT_PLAIN = 3 };
+
+enum {
+    CABLEFINCH_WANTED_NUMBER = 0,     /* the one right value, or the largest that is allowed */
+    CABLEFINCH_WANTED_LIVE_TYPES = 1, /* types 0 and 1 */
+    CABLEFINCH_WANTED_VALUE_TYPES = 2 /* types 2 to 6 and 16 to 18 */
+};
+
+enum {
+    CABLEFINCH_FIELD_FIXED_HEADER = 1,
+    CABLEFINCH_FIELD_SIGNATURE = 2,
+    CABLEFINCH_FIELD_TYPE = 3,
+    CABLEFINCH_FIELD_FIXED_CHECKSUM = 4,
+    CABLEFINCH_FIELD_PART_COUNT = 5,
+    CABLEFINCH_FIELD_HEADERS = 6,
+    CABLEFINCH_FIELD_VARIABLE_CHECKSUM = 7,
+    CABLEFINCH_FIELD_PART_SIZE = 8,
+    CABLEFINCH_FIELD_WHOLE = 9,
+    CABLEFINCH_FIELD_PART_CHECKSUM = 10,
+    CABLEFINCH_FIELD_ROW_COUNT = 11,
+    CABLEFINCH_FIELD_VALUE_COUNT = 12,
+    CABLEFINCH_FIELD_VALUE_HEADER = 13,
+    CABLEFINCH_FIELD_WORD = 14,
+    CABLEFINCH_FIELD_BLOB = 15,
+    CABLEFINCH_FIELD_LENGTH = 16,
+    CABLEFINCH_FIELD_TRAILING_BYTES = 17,
+    CABLEFINCH_FIELD_AGGREGATE = 18,
+    CABLEFINCH_FIELD_PADDING = 19
+};
+
+/* Why the packet at the input's front is refused under these limits. No table is asked for, so 17 does not arise. */
+cablefinch_outcome *cablefinch_why_packet(cablefinch_outcome *o, uint64_t mode, const uint8_t *input, size_t n,
+        uint64_t max_message_size, uint32_t max_part_count);
+/* Why the rowset that the input is is refused, or what breaks the plain form first. */
+cablefinch_outcome *cablefinch_why_rowset(cablefinch_outcome *o, const uint8_t *input, size_t n);
 
 /* Any and Composite values, which are YSON in its binary form: one node and nothing behind it, with at most
  * CABLEFINCH_MAX_OPEN_BRACKETS of `[`, `{` and `<` open at once. Any other input is refused with CABLEFINCH_BAD_YSON or

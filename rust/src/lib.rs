@@ -8,6 +8,8 @@
 //! - [`pack()`](pack::pack): the bytes behind an editor's value table, packed.
 //! - [`yson`]: whether an Any or a Composite value is well formed, and the items of its outer map.
 //! - [`error`]: the error message of a failed call, which prints as a person reads it.
+//! - [`why`]: for a log or a person, which field a refused buffer fails at, what was found there and
+//!   what was wanted.
 //! - [`guid`] and [`crc64`]: the ids and the checksums of both.
 //! - [`shown`]: what others wrote, for a log or a terminal.
 //!
@@ -54,6 +56,7 @@ pub mod shown;
 #[allow(unsafe_code)]
 mod sys;
 mod table;
+pub mod why;
 pub mod wire;
 pub mod yson;
 

@@ -31,7 +31,7 @@ pub(crate) const MORE: u64 = 1;
 mod raw {
     use super::Outcome;
     unsafe extern "C" {
-        pub(super) fn cablefinch_face_5() -> u64;
+        pub(super) fn cablefinch_face_6() -> u64;
         pub(super) fn cablefinch_checksum(bytes: *const u8, n: usize) -> u64;
         pub(super) fn cablefinch_update(register: u64, bytes: *const u8, n: usize) -> u64;
         pub(super) fn cablefinch_finish(register: u64) -> u64;
@@ -55,6 +55,8 @@ mod raw {
         pub(super) fn cablefinch_rowset_size(o: *mut Outcome, area: *const u8, n: usize, rows: *const u64, row_words: usize, values: *const u64, value_words: usize) -> *mut Outcome;
         pub(super) fn cablefinch_is_plain(input: *const u8, n: usize) -> bool;
         pub(super) fn cablefinch_pack(o: *mut Outcome, area: *const u8, n: usize, values: *mut u64, value_words: usize, out: *mut u8, room: usize) -> *mut Outcome;
+        pub(super) fn cablefinch_why_packet(o: *mut Outcome, mode: u64, input: *const u8, n: usize, max_message_size: u64, max_part_count: u32) -> *mut Outcome;
+        pub(super) fn cablefinch_why_rowset(o: *mut Outcome, input: *const u8, n: usize) -> *mut Outcome;
         pub(super) fn cablefinch_yson_check(o: *mut Outcome, input: *const u8, n: usize) -> *mut Outcome;
         pub(super) fn cablefinch_yson_items(o: *mut Outcome, input: *const u8, n: usize, table: *mut u64, words: usize) -> *mut Outcome;
         pub(super) fn cablefinch_error_read(o: *mut Outcome, input: *const u8, n: usize, errors: *mut u64, error_words: usize, attributes: *mut u64, attribute_words: usize) -> *mut Outcome;
@@ -91,7 +93,7 @@ macro_rules! ask {
 /// Named by every program over this crate, called by none: an archive of another version of the
 /// interface lacks the function, so that the program does not link.
 #[used]
-static VERSION: unsafe extern "C" fn() -> u64 = raw::cablefinch_face_5;
+static VERSION: unsafe extern "C" fn() -> u64 = raw::cablefinch_face_6;
 
 pub(crate) fn checksum(bytes: &[u8]) -> u64 {
     // SAFETY: a slice's pointer and length, only read.
@@ -161,6 +163,14 @@ pub(crate) fn decode_with(
     parts: &mut [u64],
 ) -> Outcome {
     ask!(cablefinch_decode_with mode [input] limit ceiling [mut parts])
+}
+
+pub(crate) fn why_packet(mode: u64, input: &[u8], limit: u64, ceiling: u32) -> Outcome {
+    ask!(cablefinch_why_packet mode [input] limit ceiling)
+}
+
+pub(crate) fn why_rowset(input: &[u8]) -> Outcome {
+    ask!(cablefinch_why_rowset[input])
 }
 
 pub(crate) fn encode(

@@ -1,8 +1,9 @@
 //! The command `cablefinch`: whole outputs on the samples and around them, what is on a terminal, and that
-//! `list` says what the proved program says.
+//! `list` and `why` say what the proved programs say.
 
 use cablefinch::packet::{self, Mode, Packet, PacketFlags, PacketType, Part, Parts};
 use cablefinch::{Guid, crc64};
+use std::collections::BTreeMap;
 use std::env;
 use std::fmt::Write as _;
 use std::fs;
@@ -15,7 +16,7 @@ use std::time::Duration;
 
 const COMMAND: &str = env!("CARGO_BIN_EXE_cablefinch");
 
-/// The most bytes that the proved program lists.
+/// The most bytes that the proved programs take.
 const SHORT: usize = 65_536;
 
 fn repository() -> PathBuf {
@@ -256,6 +257,92 @@ fn plain_rowsets() {
 }
 
 #[test]
+fn why_packets_and_rowsets_fail() {
+    check(asked(&["why", "packet", "samples/good.bin"]), 0, "ok\n", "");
+    let told = |kind: &str, input: &[u8], line: &str, words: &str| {
+        let words = format!("cablefinch: standard input: the {kind} {words}\n");
+        let results = format!("{line}\n");
+        check(asked_with(&["why", kind, "-"], input), 1, &results, &words);
+    };
+    told(
+        "packet",
+        &sample("damaged.packet"),
+        "refused 7 part-checksum 52 9021972904286542713 5387273376511448976",
+        "is refused by 7\n    part-checksum at byte 52: found 9021972904286542713, wanted 5387273376511448976",
+    );
+    told(
+        "packet",
+        &sample("good.bin")[..35],
+        "more fixed-header 36",
+        "is not whole\n    fixed-header: 36 bytes are waited for, and 35 are there: fetch the file again, to its end",
+    );
+    told(
+        "rowset",
+        &sample("loose.rowset"),
+        "not-plain padding 87 1 0",
+        "is accepted, and not plain\n    padding at byte 87: found 1, wanted 0",
+    );
+    told(
+        "rowset",
+        &sample("good.bin"),
+        "refused 10 row-count 0 281476996361551 5242880",
+        "is refused by 10\n    row-count at byte 0: found 281476996361551, wanted 5242880",
+    );
+    let mut typed = sample("terms.rowset");
+    typed[18] = 7;
+    told(
+        "rowset",
+        &typed,
+        "refused 14 type 18 7 2-6,16-18",
+        "is refused by 14\n    type at byte 18: found 7, wanted 2-6,16-18",
+    );
+}
+
+/// Where the proved program stops, the command goes on, under larger limits.
+#[test]
+fn longer_input_is_explained() {
+    let large = message(&[Some(&vec![7; 3 << 20])]);
+    let length = large.len();
+    let told = |words: &[&str], input: &[u8]| {
+        let mut line = vec!["why"];
+        line.extend(words);
+        line.push("-");
+        let ran = asked_with(&line, input);
+        (ran.status, ran.results)
+    };
+    let ok = (0, "ok\n".to_string());
+    assert_eq!(told(&["packet"], &large), ok);
+    assert_eq!(told(&["packet"], &[&large[..], b"and more"].concat()), ok);
+    assert_eq!(
+        told(&["packet"], &large[..length - 1]),
+        (1, format!("more whole {length}\n"))
+    );
+    // As many bytes as the limit allows, and one fewer.
+    let limit = length.to_string();
+    assert_eq!(told(&["--max-bytes", &limit, "packet"], &large), ok);
+    let limit = (length - 1).to_string();
+    assert_eq!(
+        told(&["--max-bytes", &limit, "packet"], &large),
+        (1, format!("refused 8 whole 0 {length} {limit}\n"))
+    );
+    let many = message(&vec![None; 3_000]);
+    assert_eq!(
+        told(&["packet"], &many),
+        (1, "refused 3 part-count 24 3000 2048\n".to_string())
+    );
+    assert_eq!(told(&["packet", "--max-parts=3000"], &many), ok);
+
+    let mut rowset = 100_000_u64.to_le_bytes().to_vec();
+    rowset.resize(8 + 8 * 100_000, 0xff);
+    assert_eq!(told(&["rowset"], &rowset), ok);
+    rowset.push(0);
+    assert_eq!(
+        told(&["rowset"], &rowset),
+        (1, "refused 15 trailing-bytes 800008 1 0\n".to_string())
+    );
+}
+
+#[test]
 fn values_in_yson() {
     check(
         asked(&["yson", "samples/note.yson"]),
@@ -386,7 +473,7 @@ fn sums_and_joined_sums() {
 
 #[test]
 fn wrong_usage_says_what_to_write() {
-    let cases: [(&[&str], &str); 15] = [
+    let cases: [(&[&str], &str); 18] = [
         (
             &[],
             "no word was given: `cablefinch --help` shows all words",
@@ -431,6 +518,18 @@ fn wrong_usage_says_what_to_write() {
         (
             &["sum", "-", "-"],
             "sum: standard input can be read once; `cablefinch sum --help` says more",
+        ),
+        (
+            &["why", "packet"],
+            "why: it wants KIND FILE; `-` is standard input; `cablefinch why --help` says more",
+        ),
+        (
+            &["why", "part", "x"],
+            "why: KIND is `part`: give packet or rowset, and then the file",
+        ),
+        (
+            &["why", "rowset", "x", "--max-bytes", "9"],
+            "why: a rowset has no limits to set: leave the options away",
         ),
         (
             &["join", "+1", "2", "3"],
@@ -551,6 +650,11 @@ fn bash_completes_words_options_and_files() {
     files.sort_unstable();
     assert_eq!(files, ["samples/good.bin", "samples/good.txt"]);
     assert_eq!(completed(&["cablefinch", "completion", ""]), "bash\n");
+    assert_eq!(completed(&["cablefinch", "why", ""]), "packet\nrowset\n");
+    assert_eq!(
+        completed(&["cablefinch", "why", "rowset", "samples/terms.rowse"]),
+        "samples/terms.rowset\n"
+    );
     assert_eq!(completed(&["cablefinch", "guid", ""]), "\n");
 }
 
@@ -899,6 +1003,80 @@ impl Draw {
         }
     }
 
+    /// A packet, cut or with something behind it, of at most as many bytes as the proved program takes.
+    fn front(&mut self) -> Vec<u8> {
+        let mut bytes = self.packet();
+        match self.below(4) {
+            0 => {
+                let cut = self.below(bytes.len().min(120) + 1);
+                bytes.truncate(cut);
+            }
+            1 => bytes.truncate(bytes.len() - 1),
+            2 => {
+                let length = self.below(50);
+                bytes.extend(self.bytes(length));
+            }
+            _ => {}
+        }
+        bytes.truncate(SHORT);
+        bytes
+    }
+
+    /// A number that is right, or now and then another.
+    fn or(&mut self, right: u64, wrong: u64) -> u64 {
+        if self.one_in(40) { wrong } else { right }
+    }
+
+    /// A rowset, some of whose fields are wrong, of at most as many bytes as the proved program takes.
+    fn rowset(&mut self) -> Vec<u8> {
+        let rows = self.below(5);
+        let count = self.or(rows as u64, 5_242_881);
+        let mut bytes = count.to_le_bytes().to_vec();
+        for _ in 0..rows {
+            if self.one_in(5) {
+                bytes.extend([0xff; 8]);
+                continue;
+            }
+            let values = self.below(4);
+            let count = self.or(values as u64, 1_025);
+            bytes.extend(count.to_le_bytes());
+            for _ in 0..values {
+                self.value(&mut bytes);
+            }
+        }
+        match self.below(6) {
+            0 => {
+                let cut = self.below(bytes.len() + 1);
+                bytes.truncate(cut);
+            }
+            1 => bytes.push(0),
+            _ => {}
+        }
+        bytes.truncate(SHORT);
+        bytes
+    }
+
+    fn value(&mut self, bytes: &mut Vec<u8>) {
+        const BOOLEAN: u64 = 6;
+        let kinds = [2, 3, 4, 5, BOOLEAN, BOOLEAN, 16, 17, 18];
+        let kind = kinds[self.below(kinds.len())];
+        let blob = if kind < 16 { Vec::new() } else { self.part() };
+        let wrong = if kind < 16 { 1 << 16 } else { 16_777_217 };
+        let (kind, aggregate) = (self.or(kind, 7), self.below(2) as u64);
+        let (aggregate, length) = (self.or(aggregate, 2), self.or(blob.len() as u64, wrong));
+        bytes.extend([5, 0, kind as u8, aggregate as u8]);
+        bytes.extend((length as u32).to_le_bytes());
+        if (3..=BOOLEAN).contains(&kind) {
+            let truth = self.below(2) as u64;
+            bytes.extend(self.or(truth, 256).to_le_bytes());
+        }
+        bytes.extend(&blob);
+        for _ in 0..blob.len().wrapping_neg() % 8 {
+            let padding = self.or(0, 9);
+            bytes.push(padding as u8);
+        }
+    }
+
     /// At most as many bytes as the proved program lists.
     fn input(&mut self) -> Vec<u8> {
         let mut bytes = Vec::new();
@@ -927,13 +1105,15 @@ impl Draw {
     }
 }
 
-/// The proved program, where it is at hand: named by a variable, or built in the repository's `target`.
-fn proved() -> Option<Vec<String>> {
-    let line = match env::var("CABLEFINCH_LIST") {
+/// What a proved program prints of an input, where it is at hand: named by a variable, or built in the repository's
+/// `target`. `nothing` is what it says of no input.
+fn proved(name: &str, nothing: &str) -> Option<impl Fn(&[u8]) -> String> {
+    let line = match env::var(format!("CABLEFINCH_{}", name.to_ascii_uppercase())) {
         Ok(line) => line.split(' ').map(str::to_string).collect(),
         Err(_) => vec![
             repository()
-                .join("target/bin/list")
+                .join("target/bin")
+                .join(name)
                 .to_string_lossy()
                 .into_owned(),
         ],
@@ -942,32 +1122,104 @@ fn proved() -> Option<Vec<String>> {
         .args(&line[1..])
         .stdin(Stdio::null())
         .output()
-        .is_ok_and(|output| output.stdout == b"end 0\n");
+        .is_ok_and(|output| output.stdout == nothing.as_bytes());
     if !works {
         let line = line.join(" ");
         say(&format!(
-            "the proved program `list` is not at hand ({line}): holding the command against it is left out"
+            "the proved program `{name}` is not at hand ({line}): holding the command against it is left out"
         ));
         return None;
     }
-    Some(line)
+    Some(move |input: &[u8]| {
+        let mut program = program(&line[0]);
+        program.args(&line[1..]);
+        ran(program, input).results
+    })
+}
+
+/// How many inputs are drawn.
+fn draws() -> usize {
+    env::var("CABLEFINCH_DRAWS").map_or(300, |count| count.parse().expect("a number of draws"))
+}
+
+/// How often each ending was drawn; those that are wanted must be among them.
+#[derive(Default, Debug)]
+struct Endings(BTreeMap<String, usize>);
+
+impl Endings {
+    fn count(&mut self, ending: String) {
+        *self.0.entry(ending).or_default() += 1;
+    }
+
+    fn hold(&self, wanted: impl IntoIterator<Item = String>) {
+        eprintln!("{self:?}");
+        for ending in wanted {
+            assert!(
+                self.0.contains_key(&ending),
+                "{ending} was not drawn: {self:?}"
+            );
+        }
+    }
+}
+
+#[test]
+fn why_says_what_the_proved_program_says() {
+    let Some(told) = proved("why", "bad input\n") else {
+        return;
+    };
+    let told = |kind: &str, bytes: &[u8]| told(&[kind.as_bytes(), b"\n", bytes].concat());
+    let mut draw = Draw(0x9e37_79b9_7f4a_7c15);
+    let mut endings = Endings::default();
+    for turn in 0..draws() {
+        for kind in ["packet", "rowset"] {
+            let bytes = match kind {
+                "packet" => draw.front(),
+                _ => draw.rowset(),
+            };
+            let wanted = told(kind, &bytes);
+            let command = asked_with(&["why", kind, "-"], &bytes);
+            assert_eq!(command.results, wanted, "draw {turn}");
+            let words: Vec<&str> = wanted.split_whitespace().collect();
+            let right = words[0] == "ok";
+            assert_eq!(
+                (command.status, command.words.is_empty()),
+                (i32::from(!right), right)
+            );
+            endings.count(match words[..] {
+                [word, which, ..] => format!("{kind}: {word} {which}"),
+                _ => format!("{kind}: {}", words[0]),
+            });
+        }
+    }
+    let packets = (1..=8).map(|number| format!("refused {number}"));
+    let packets =
+        packets.chain(["ok", "more fixed-header", "more headers", "more whole"].map(String::from));
+    let rowsets = [9, 10, 11, 12, 14, 15].map(|number| format!("refused {number}"));
+    let fields =
+        ["aggregate", "length", "word", "padding"].map(|field| format!("not-plain {field}"));
+    let rowsets = rowsets.into_iter().chain(fields).chain(["ok".to_string()]);
+    endings.hold(
+        packets
+            .map(|ending| format!("packet: {ending}"))
+            .chain(rowsets.map(|ending| format!("rowset: {ending}"))),
+    );
+    // One byte more is too much for it.
+    let long = vec![0; SHORT + 1];
+    assert_eq!(told("packet", &long), "bad input\n");
+    assert_eq!(
+        asked_with(&["why", "packet", "-"], &long).results,
+        "refused 1 signature 0 0 2019650895\n"
+    );
 }
 
 #[test]
 fn list_says_what_the_proved_program_says() {
-    let Some(line) = proved() else {
+    let Some(listed) = proved("list", "end 0\n") else {
         return;
     };
-    let listed = |input: &[u8]| {
-        let mut program = program(&line[0]);
-        program.args(&line[1..]);
-        ran(program, input).results
-    };
-    let draws =
-        env::var("CABLEFINCH_DRAWS").map_or(300, |count| count.parse().expect("a number of draws"));
     let mut draw = Draw(0x9e37_79b9_7f4a_7c15);
-    let mut endings = std::collections::BTreeMap::new();
-    for turn in 0..draws {
+    let mut endings = Endings::default();
+    for turn in 0..draws() {
         let input = draw.input();
         let wanted = listed(&input);
         let command = asked_with(&["list", "-"], &input);
@@ -983,26 +1235,18 @@ fn list_says_what_the_proved_program_says() {
             (command.status == 0, command.words.is_empty()),
             (right, right)
         );
-        let ending = match last[..] {
+        endings.count(match last[..] {
             ["refused", _, number] => format!("refused {number}"),
             _ => last[0].to_string(),
-        };
-        *endings.entry(ending).or_insert(0) += 1;
+        });
     }
-    eprintln!("{draws} draws: {endings:?}");
-    for ending in ["end", "more"] {
-        assert!(
-            endings.contains_key(ending),
-            "{ending} was not drawn: {endings:?}"
-        );
-    }
-    for number in 1..=8 {
-        let ending = format!("refused {number}");
-        assert!(
-            endings.contains_key(&ending),
-            "{ending} was not drawn: {endings:?}"
-        );
-    }
+    let refusals = (1..=8).map(|number| format!("refused {number}"));
+    endings.hold(
+        ["end", "more"]
+            .map(String::from)
+            .into_iter()
+            .chain(refusals),
+    );
     // One byte more is too long for it.
     assert_eq!(listed(&vec![0; SHORT + 1]), "too long\n");
     assert_eq!(

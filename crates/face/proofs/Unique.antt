@@ -11,5 +11,5 @@ equal-to-two a b x x′ p q = λ i. ((p .0 ∙ sym (q .0)) i, (p .1 ∙ sym (q .
 pub equal-to-three : {A B C : Type 0} (a : A) (b : B) (c : C) → OneResult (λ (x : A × B × C). (x .0 ≡ a) × (x .1 ≡ b) × (x .2 ≡ c))
 equal-to-three a b c x x′ p q = λ i. ((p .0 ∙ sym (q .0)) i, (p .1 ∙ sym (q .1)) i, (p .2 ∙ sym (q .2)) i)
 
-pub cablefinch-face-5-unique : OneResult InterfaceIs
-cablefinch-face-5-unique = equal-to-one _
+pub cablefinch-face-6-unique : OneResult InterfaceIs
+cablefinch-face-6-unique = equal-to-one _

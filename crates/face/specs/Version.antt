@@ -4,7 +4,7 @@ use Prim.Native.Nat.{ℕ}
 use mathlib.Core.Path.{_≡_}
 
 abbrev pub interface : ℕ
-interface = 5
+interface = 6
 
 abbrev pub InterfaceIs : ℕ → Type 0
 InterfaceIs r = r ≡ interface

@@ -13,17 +13,12 @@ use Rattle.words.specs.Statement.{Holds}
 use Rattle.words.specs.declared.outcome.Outcome.{Outcome}
 use Rattle.guid.specs.Guid.{guidAt}
 use Rattle.packet.specs.Layout.{lastType}
-use Rattle.packet.specs.declared.Mode.{Mode}
-use Rattle.packet.specs.declared.Mode.the-variants.{Archive, Live}
 use Rattle.packet.specs.Entries.{entries, lentAt, offsetAt}
 use Rattle.packet.specs.Wire.{packetBytes, partsOf}
+use Rattle.packet_mode.specs.Statement.{modeOf}
 use Rattle.packet_read.specs.Reading.{limited, reading}
 use Rattle.packet_check.specs.Checks.{validating, sizing}
 use Rattle.packet_write.specs.Writing.{writing}
-
--- a mode is given as a number: 0 is archive, any other is live
-abbrev pub modeOf : ℕ → Mode
-modeOf n = pick (n =? 0) Archive Live
 
 abbrev pub Decodes : ℕ → List ℕ → ℕ → ℕ → List ℕ → Outcome → List ℕ → Type 0
 Decodes mode s limit ceiling table r after =

@@ -2,26 +2,15 @@
 // A mode is a number too: 0 is archive, any other is live.
 ghost use Rattle.packet.specs.Statement.{PartChecksumIs};
 ghost use Rattle.packet_read.specs.Statement.{defaultCeiling};
-ghost use Rattle.face_packets.specs.Statement.{modeOf, Decodes, unknownType, Encodes, Measures, Validates, LendsPart, Contains};
+ghost use Rattle.face_packets.specs.Statement.{Decodes, unknownType, Encodes, Measures, Validates, LendsPart, Contains};
 ghost use Rattle.words.specs.Paper.{Tells};
-ghost use mathlib.Core.Path.{_≡_};
 use guid::Guid;
-use packet::Mode;
 use packet::PacketFlags;
 use packet::TypeFound;
+use packet_mode::mode_of;
 use words::outcome::Outcome;
 use words::outcome::refusal;
 use words::outcome::taken;
-
-fn mode_of(number: u64) -> Mode
-    ensures { λ r. ⌜ r ≡ modeOf number ⌝ }
-{
-    if number == 0 {
-        Mode::Archive
-    } else {
-        Mode::Live
-    }
-}
 
 #[no_mangle]
 pub extern "C" fn cablefinch_decode_with(

@@ -4,7 +4,7 @@ use Prim.Native.Nat.{ℕ, _≤_}
 use Rattle.words.proofs.PaperLaws.{told}
 use Rattle.packet.specs.Layout.{lastType}
 use Rattle.packet_check.specs.Checks.{sizing}
-use Rattle.face_packets.specs.Statement.{modeOf}
+use Rattle.packet_mode.specs.Statement.{modeOf}
 use Rattle.face_packets.proofs.OutcomeLaws.{typed-refused, typed-known, number-known}
 use borrow.Author.Needs.{needs}
 use Rattle.face_packets.proofs.cablefinch_encoded_size.Statement.{statement}

@@ -34,6 +34,7 @@ fn bash() -> String {
             Operand::File => ("yes", String::new()),
             Operand::Text => ("", String::new()),
             Operand::OneOf(others) => ("", others.join(" ")),
+            Operand::OneOfThenFile(others) => ("yes", others.join(" ")),
         };
         let _ = writeln!(
             cases,
@@ -62,11 +63,11 @@ _cablefinch() {{
     case $current in
     -*) mapfile -t COMPREPLY < <(compgen -W \"$options\" -- \"$current\") ;;
     *)
-        if [ -n \"$files\" ]; then
+        if [ -n \"$others\" ] && [ \"$COMP_CWORD\" -eq 2 ]; then
+            mapfile -t COMPREPLY < <(compgen -W \"$others\" -- \"$current\")
+        elif [ -n \"$files\" ]; then
             compopt -o filenames 2>/dev/null
             mapfile -t COMPREPLY < <(compgen -f -- \"$current\")
-        else
-            mapfile -t COMPREPLY < <(compgen -W \"$others\" -- \"$current\")
         fi
         ;;
     esac

@@ -1,10 +1,10 @@
 //! Files and standard input, read in pieces or whole.
 
-use crate::arguments::{Arguments, STANDARD_INPUT};
+use crate::arguments::STANDARD_INPUT;
 use crate::screen::{Screen, without_number};
 use crate::{Stop, Verdict, shown};
 use cablefinch::packet::MAX_PART_SIZE;
-use std::ffi::OsStr;
+use std::ffi::{OsStr, OsString};
 use std::fs::File;
 use std::io::{self, Read};
 
@@ -135,13 +135,13 @@ impl Input {
 /// Does some work on each file that was named. One that cannot be read is told of, and the others are
 /// worked on all the same.
 pub fn each(
-    arguments: &Arguments,
+    files: &[OsString],
     screen: &mut Screen,
     mut work: impl FnMut(Input, &mut Screen) -> Result<Verdict, Stop>,
 ) -> Result<Verdict, Stop> {
     let mut worst = Verdict::Right;
-    for operand in arguments.operands() {
-        let verdict = match Input::open(operand).and_then(|input| work(input, screen)) {
+    for file in files {
+        let verdict = match Input::open(file).and_then(|input| work(input, screen)) {
             Err(Stop::Input(message)) => {
                 screen.flush()?;
                 screen.say(&message);

@@ -2,52 +2,29 @@
 
 use crate::arguments::Arguments;
 use crate::input::{self, Input, PIECE};
+use crate::limits::{Given, Limits, SHORT};
 use crate::screen::{Colour, Screen};
-use crate::words::{MAX_BYTES, MAX_PARTS, ROWS};
+use crate::words::ROWS;
 use crate::{Stop, Verdict};
 use cablefinch::Guid;
 use cablefinch::packet::{
-    self, DEFAULT_MAX_PART_COUNT, Decoder, FIXED_HEADER_SIZE, Guard, MAX_PART_COUNT, Mode, Packet,
-    PacketError, Part, Ready,
+    self, Decoder, FIXED_HEADER_SIZE, Guard, MAX_PART_COUNT, Mode, Packet, PacketError, Part, Ready,
 };
 use cablefinch::shown::{Node, Quoted};
 use cablefinch::wire::{self, UnversionedValue, Value};
 use cablefinch::yson;
 use std::io::{self, Write as _};
 
-/// The most bytes that the proved program lists.
-const SHORT: usize = 65_536;
-
-/// How large a packet may be.
-#[derive(Clone, Copy)]
-struct Limits {
-    bytes: u64,
-    parts: u32,
-}
-
-/// The limits of the proved program, for input that it lists.
-const SHORT_LIMITS: Limits = Limits {
-    bytes: SHORT as u64,
-    parts: 2_048,
-};
-
-/// The limits of the original's client.
-const LIMITS: Limits = Limits {
-    bytes: 512 << 20,
-    parts: DEFAULT_MAX_PART_COUNT,
-};
-
 /// `cablefinch list FILE..`.
 pub fn run(arguments: &Arguments, screen: &mut Screen) -> Result<Verdict, Stop> {
     let mut listing = Listing {
-        max_bytes: arguments.number(&MAX_BYTES, u64::MAX)?,
-        max_parts: arguments.number(&MAX_PARTS, MAX_PART_COUNT)?,
+        given: Given::of(arguments)?,
         rowsets: arguments.has(&ROWS).then(wire::Decoder::new),
         packets: Decoder::archive(),
         line: Line::new(),
     };
     let several = arguments.operands().len() > 1;
-    input::each(arguments, screen, |input, screen| {
+    input::each(arguments.operands(), screen, |input, screen| {
         if several {
             let _ = writeln!(screen.text(), "== {}", input.name);
         }
@@ -56,8 +33,7 @@ pub fn run(arguments: &Arguments, screen: &mut Screen) -> Result<Verdict, Stop> 
 }
 
 struct Listing {
-    max_bytes: Option<u64>,
-    max_parts: Option<u32>,
+    given: Given,
     /// Where rows are asked for.
     rowsets: Option<wire::Decoder>,
     packets: Decoder,
@@ -65,19 +41,11 @@ struct Listing {
 }
 
 impl Listing {
-    fn limits(&self, short: bool) -> Limits {
-        let limits = if short { SHORT_LIMITS } else { LIMITS };
-        Limits {
-            bytes: self.max_bytes.unwrap_or(limits.bytes),
-            parts: self.max_parts.unwrap_or(limits.parts),
-        }
-    }
-
     fn list(&mut self, input: Input, screen: &mut Screen) -> Result<Verdict, Stop> {
         let mut pieces = Pieces::of(input);
         // One byte more than the proved program lists, so that longer input shows.
         let long = pieces.wait(SHORT + 1, screen)?;
-        let limits = self.limits(!long);
+        let limits = self.given.limits(long);
         loop {
             let offset = pieces.offset;
             if pieces.rest().is_empty() && !pieces.wait(1, screen)? {

@@ -9,12 +9,14 @@ mod error;
 mod guid;
 mod help;
 mod input;
+mod limits;
 mod list;
 mod man;
 mod plain;
 mod screen;
 mod shown;
 mod sum;
+mod why;
 mod words;
 mod yson;
 

@@ -9,7 +9,7 @@ use std::io::Write as _;
 
 /// `cablefinch plain FILE..`.
 pub fn run(arguments: &Arguments, screen: &mut Screen) -> Result<Verdict, Stop> {
-    input::each(arguments, screen, one)
+    input::each(arguments.operands(), screen, one)
 }
 
 fn one(mut input: Input, screen: &mut Screen) -> Result<Verdict, Stop> {

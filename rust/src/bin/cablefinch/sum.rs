@@ -10,7 +10,7 @@ use std::io::Write as _;
 /// `cablefinch sum FILE..`.
 pub fn run(arguments: &Arguments, screen: &mut Screen) -> Result<Verdict, Stop> {
     let mut room = Vec::new();
-    input::each(arguments, screen, |mut input, screen| {
+    input::each(arguments.operands(), screen, |mut input, screen| {
         input.grow(&mut room, PIECE)?;
         let (mut sum, mut length) = (Crc64::new(), 0);
         loop {

@@ -3,7 +3,7 @@
 
 use crate::arguments::Arguments;
 use crate::screen::Screen;
-use crate::{Stop, Verdict, completion, error, guid, list, man, plain, sum, yson};
+use crate::{Stop, Verdict, completion, error, guid, list, man, plain, sum, why, yson};
 use std::ffi::OsStr;
 
 /// Something that the command can be asked.
@@ -29,9 +29,9 @@ pub struct Word {
 }
 
 impl Word {
-    /// Whether its operands are files.
+    /// Whether it reads files that are operands.
     pub fn reads_files(&self) -> bool {
-        matches!(self.kind, Operand::File)
+        matches!(self.kind, Operand::File | Operand::OneOfThenFile(_))
     }
 
     /// What it takes, for a message.
@@ -63,6 +63,8 @@ pub enum Operand {
     Text,
     /// One of these.
     OneOf(&'static [&'static str]),
+    /// First one of these, and then a file's name, or `-`.
+    OneOfThenFile(&'static [&'static str]),
 }
 
 /// An option.
@@ -183,6 +185,30 @@ pub const WORDS: &[Word] = &[
         options: &[],
         examples: &["cablefinch plain samples/terms.rowset"],
         run: plain::run,
+    },
+    Word {
+        name: "why",
+        operands: "KIND FILE",
+        count: (2, 2),
+        kind: Operand::OneOfThenFile(why::KINDS),
+        summary: "says at which field a packet or a rowset fails; KIND is packet or rowset",
+        details: &[
+            "A line as the proved program `why` prints it. `ok` where nothing is wrong; `more` with the name of the \
+             length that is waited for, and that length; `refused` with the number of the refusal, the field, its \
+             offset, what was found there and what was wanted; or `not-plain` with the same, number aside, for an \
+             accepted rowset that has not the plain form. What was wanted is the one right value where there is \
+             one, else the largest that is allowed, or a list of types.",
+            "A packet is the one at the front of the file, and what follows it is left alone. Where the file has at \
+             most 65,536 bytes its limits are those of the proved program, 65,536 bytes and 2,048 parts; else those \
+             of the original's client: 536,870,912 bytes and 65,536 parts. Options set others. A rowset is the \
+             whole file.",
+        ],
+        options: &[MAX_BYTES, MAX_PARTS],
+        examples: &[
+            "cablefinch why packet samples/good.bin",
+            "cablefinch why rowset samples/terms.rowset",
+        ],
+        run: why::run,
     },
     Word {
         name: "yson",

@@ -9,7 +9,7 @@ use std::io::Write as _;
 
 /// `cablefinch yson FILE`.
 pub fn run(arguments: &Arguments, screen: &mut Screen) -> Result<Verdict, Stop> {
-    input::each(arguments, screen, |mut input, screen| {
+    input::each(arguments.operands(), screen, |mut input, screen| {
         let bytes = input.part(screen)?;
         let error = match yson::check(&bytes) {
             Ok(items) => {

@@ -1,0 +1,2 @@
+-- One result for each statement.
+pub mod Unique

@@ -1,0 +1,2 @@
+-- The map to what a person is told loses nothing.
+pub mod Unique

@@ -1,0 +1,2 @@
+-- What writing a field's name promises.
+pub mod Statement

@@ -1,0 +1,3 @@
+-- What is told of a packet, and what the private stages hand on.
+pub mod Checks
+pub mod Stages
