@@ -2,14 +2,18 @@
 // specs/Polynomial.antt. The register is held byte-swapped, as the engines work, and `finish` swaps it back.
 ghost use Rattle.checksum.specs.Statement.{UpdatedIs, NewIs, UpdateIs, ChainIs, AppendIs, FinishIs};
 ghost use Rattle.crc64.specs.Statement.{ChecksumIs};
+use crc64_lanes::LANES_FROM;
 use crc64_long::LONG_FROM;
 
 // The register, held byte-swapped, after the bytes.
 pub fn updated(register: u64, bytes: &[u8]) -> u64
     ensures { λ r. ⌜ UpdatedIs register (now (bytes .entry)) r ⌝ }
 {
-    if bytes.len() < LONG_FROM {
+    if bytes.len() < LANES_FROM {
         return crc64_fast::fold_held(register, bytes);
+    }
+    if bytes.len() < LONG_FROM {
+        return crc64_lanes::fold_lanes(register, bytes);
     }
     crc64_long::fold_long(register, bytes)
 }
@@ -19,8 +23,11 @@ pub fn updated(register: u64, bytes: &[u8]) -> u64
 pub fn checksum(bytes: &[u8]) -> u64
     ensures { λ r. ⌜ ChecksumIs (now (bytes .entry)) r ⌝ }
 {
-    if bytes.len() < LONG_FROM {
+    if bytes.len() < LANES_FROM {
         return crc64::swap_bytes(crc64_fast::fold_held(0, bytes));
+    }
+    if bytes.len() < LONG_FROM {
+        return crc64::swap_bytes(crc64_lanes::fold_lanes(0, bytes));
     }
     crc64::swap_bytes(crc64_long::fold_long(0, bytes))
 }

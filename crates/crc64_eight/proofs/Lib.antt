@@ -4,5 +4,7 @@ pub mod Span
 pub mod Words
 pub mod Turn
 pub mod Lending
+pub mod Arm
+pub mod EightBytes
 pub mod Unique
 pub mod Examples

@@ -31,7 +31,7 @@ pub length-entries : (n : ℕ) → length (entries n) ≡ 256
 unfolding entries
 length-entries n = length-entries-from n 0 256
 
-tables-from-at : (k count j b : ℕ) → j < count → b < 256 → getD (tablesFrom k count) (256 * j + b) 0 ≡ entry (8 * suc (k + j)) b
+pub tables-from-at : (k count j b : ℕ) → j < count → b < 256 → getD (tablesFrom k count) (256 * j + b) 0 ≡ entry (8 * suc (k + j)) b
 unfolding tablesFrom
 tables-from-at k zero j b hj hb = absurd (not-suc-le-zero hj)
 tables-from-at k (suc count) zero b hj hb =

@@ -22,7 +22,7 @@ unfoldable pub spannedFrom : ℕ → ℕ → List ℕ
 spannedFrom k zero = []
 spannedFrom k (suc count) = spanned (8 * suc k) 8 ++ spannedFrom (suc k) count
 
-entry-xor : (n a b : ℕ) → entry n (bitXor a b) ≡ bitXor (entry n a) (entry n b)
+pub entry-xor : (n a b : ℕ) → entry n (bitXor a b) ≡ bitXor (entry n a) (entry n b)
 unfolding entry
 entry-xor n a b =
     ap (λ (z : ℕ). swapped 8 (steps n z)) (xor-shl 56 a b)
@@ -51,7 +51,7 @@ cut n from (suc j) k =
 double : (i : ℕ) → 2 ^ suc i ≡ 2 ^ i + 2 ^ i
 double i = omega (arith, pow-succ' 2 i)
 
-first-entry : (n : ℕ) → 0 ≡ entry n 0
+pub first-entry : (n : ℕ) → 0 ≡ entry n 0
 unfolding entry swapped
 first-entry n = ap (swapped 8) (sym (steps-zero n))
 

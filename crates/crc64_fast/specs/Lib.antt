@@ -1,2 +1,3 @@
 -- The checksum with nothing laid out: what each public function promises.
 pub mod Statement
+pub mod Stages

@@ -20,7 +20,7 @@ const BLOCK: usize = 4096;
 const WINDOW: usize = 5952;
 
 // From how many bytes on this pays, measured.
-pub const LONG_FROM: usize = 3072;
+pub const LONG_FROM: usize = 4096;
 
 type Window = [u8; WINDOW];
 
@@ -129,5 +129,5 @@ pub fn fold_long(register: u64, bytes: &[u8]) -> u64
     let mut tail: Tail = [0; SPAN];
     last(bytes, &mut tail);
     pay_all(&window, &mut tail);
-    crc64_fast::fold_held(0, &tail)
+    crc64_lanes::fold_lanes(0, &tail)
 }

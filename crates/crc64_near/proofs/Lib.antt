@@ -1,4 +1,2 @@
--- The arms of a table, the eight bytes of a number, and the proofs of the functions.
-pub mod Arm
-pub mod EightBytes
+-- One result for the statement, and the proofs of the functions.
 pub mod Unique

@@ -105,7 +105,7 @@ fn write_parts(area: &[u8], parts: &[u64], out: &mut [u8])
     let mut index = 0;
     while index < count {
         let bytes = packet::part(area, parts, index);
-        let register = crc64_fast::copy_held(0, bytes, &mut out[part_at..]);
+        let register = crc64_lanes::copy_lanes(0, bytes, &mut out[part_at..]);
         part_at += bytes.len();
         write_u64(&mut out[sum_at..], crc64::swap_bytes(register));
         sum_at += CHECKSUM_BYTES;

@@ -33,11 +33,11 @@ last-requires c κs = search needs
 pay-all-requires : tie.Need-pay-all-requires
 pay-all-requires c κs = search needs
 
-slice-aggregate-fold-held : tie.Need-slice-aggregate-fold-held
-slice-aggregate-fold-held c = search needs
+slice-aggregate-fold-lanes : tie.Need-slice-aggregate-fold-lanes
+slice-aggregate-fold-lanes c = search needs
 
-fold-held-requires-2 : tie.Need-fold-held-requires-2
-fold-held-requires-2 c κs = search needs
+fold-lanes-requires : tie.Need-fold-lanes-requires
+fold-lanes-requires c κs = search needs
 
 returns-2 : tie.Need-returns-2
 unfolding zeros
@@ -46,7 +46,7 @@ returns-2 c =
     let s : List _ = start .args .bytes .now in
     all-left (start .args .register) s _ _ _ (omega arith)
     (opened-window (start .args .register) _ (start .fits .register .fits) (omega arith) refl (c .before .before .before .before .before .before .before .before .before .before .write-u64 .ensures))
-    (c .before .before .before .before .before .before .before .leave-all .ensures .1) (c .before .before .before .before .before .last .ensures .1) (c .before .before .pay-all .ensures .1) (c .fold-held2 .ensures)
+    (c .before .before .before .before .before .before .before .leave-all .ensures .1) (c .before .before .before .before .before .last .ensures .1) (c .before .before .pay-all .ensures .1) (c .fold-lanes .ensures)
 
 pub fold-long-spec : {M : Type 1} → statement M
 fold-long-spec =
@@ -60,6 +60,6 @@ fold-long-spec =
     leave-all-requires
     last-requires
     pay-all-requires
-    slice-aggregate-fold-held
-    fold-held-requires-2
+    slice-aggregate-fold-lanes
+    fold-lanes-requires
     returns-2)

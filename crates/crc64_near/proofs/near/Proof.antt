@@ -3,7 +3,7 @@
 use Prim.Native.Nat.{ℕ}
 use lib.Dec.{lit<}
 use borrow.Author.Needs.{needs}
-use Rattle.crc64_near.proofs.EightBytes.{lowest, beside, whole}
+use Rattle.crc64_eight.proofs.EightBytes.{lowest, beside, whole}
 use Rattle.crc64_near.proofs.near.Statement.{statement}
 use Rattle.crc64_near.proofs.near.Tie as tie
 
@@ -65,15 +65,15 @@ returns c =
     let after-6 = after-5 .before in
     let after-7 = after-6 .before in
     let x : ℕ = after-7 .before .args .x in
-    whole x
-    (beside 6 _ (lit< tt) (after-7 .table-7 .ensures)
-    (beside 5 _ (lit< tt) (after-6 .table-6 .ensures)
-    (beside 4 _ (lit< tt) (after-5 .table-5 .ensures)
-    (beside 3 _ (lit< tt) (after-4 .table-4 .ensures)
-    (beside 2 _ (lit< tt) (after-3 .table-3 .ensures)
-    (beside 1 _ (lit< tt) (after-2 .table-2 .ensures)
-    (beside 0 _ (lit< tt) (after-1 .table-1 .ensures)
-    (lowest _ (c .table-0 .ensures)))))))))
+    whole 0 x
+    (beside 0 6 _ (lit< tt) (after-7 .table-7 .ensures)
+    (beside 0 5 _ (lit< tt) (after-6 .table-6 .ensures)
+    (beside 0 4 _ (lit< tt) (after-5 .table-5 .ensures)
+    (beside 0 3 _ (lit< tt) (after-4 .table-4 .ensures)
+    (beside 0 2 _ (lit< tt) (after-3 .table-3 .ensures)
+    (beside 0 1 _ (lit< tt) (after-2 .table-2 .ensures)
+    (beside 0 0 _ (lit< tt) (after-1 .table-1 .ensures)
+    (lowest 0 _ (c .table-0 .ensures)))))))))
 
 pub near-spec : {M : Type 1} → statement M
 near-spec =

@@ -2,7 +2,7 @@
 use mathlib.Core.Path.{refl}
 use Rattle.crc64.specs.Polynomial.{step, steps}
 use Rattle.crc64.specs.Table.{swapped, entry}
-use Rattle.crc64_near.proofs.Arm.{hit, last, none}
+use Rattle.crc64_eight.proofs.Arm.{hit, last, none}
 use Rattle.crc64_near.proofs.table_3.Statement.{statement}
 use Rattle.crc64_near.proofs.table_3.Tie as tie
 

@@ -1,0 +1,2 @@
+-- One result for the statement, and the proofs of the functions.
+pub mod Unique

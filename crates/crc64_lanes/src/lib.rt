@@ -1,0 +1,105 @@
+// The checksum by four registers side by side, so that no word waits for the one before it: each register takes every
+// fourth word and goes 32 bytes on. Bytes are copied on the same walk. What a checksum is stands in crc64's
+// specs/Polynomial.antt.
+ghost use mathlib.Core.Bool.{false};
+ghost use mathlib.Core.Path.{_≡_};
+ghost use mathlib.Core.List.{List, [], _∷_};
+ghost use Prim.Native.Nat.{ℕ, _+_, _-_, _≤_};
+ghost use lib.ListN.{length, take, drop};
+ghost use borrow.Rule.Slice.PartMut.{midOf, putMid};
+ghost use Rattle.words.specs.Word.{bytesOf};
+ghost use Rattle.words.specs.Decide.{pick};
+ghost use Rattle.words.specs.Buffer.{fitted};
+ghost use Rattle.crc64.specs.Table.{swapped};
+ghost use Rattle.crc64_fast.specs.Stages.{So-far};
+ghost use Rattle.crc64_fast.specs.Statement.{Copies, FoldHeldIs};
+ghost use Rattle.crc64_lanes.specs.Stages.{entering, waits};
+use crc64_fast::fold_held;
+use words::read::read_u64;
+use words::write;
+
+// From how many bytes on this pays, measured.
+pub const LANES_FROM: usize = 96;
+
+// The word over `out` at its place, but where `out` is too short for all.
+fn put_word(word: u64, at: usize, short: bool, out: &mut [u8])
+    requires { ⌜ (short ≡ false → at ≤ length (now out)) ⌝ }
+    ensures { λ _. ⌜ (length (now (out .exit)) ≡ length (now (out .entry)))
+        × (now (out .exit) ≡ pick short (now (out .entry)) (putMid at (length (now (out .entry)) - at) (now (out .entry))
+        (fitted (bytesOf 8 word) (midOf at (length (now (out .entry)) - at) (now (out .entry)))))) ⌝ }
+{
+    if short {
+        return;
+    }
+    write::write_u64(&mut out[at..], word);
+}
+
+// The bytes from one place on, over `out` there, but where `out` is too short for all.
+fn put_rest(bytes: &[u8], at: usize, short: bool, out: &mut [u8])
+    requires { ⌜ (at ≤ length (now bytes)) × (short ≡ false → at ≤ length (now out)) ⌝ }
+    ensures { λ _. ⌜ (length (now (out .exit)) ≡ length (now (out .entry)))
+        × (now (out .exit) ≡ pick short (now (out .entry)) (putMid at (length (now (out .entry)) - at) (now (out .entry))
+        (fitted (take (length (now (bytes .entry)) - at) (drop at (now (bytes .entry))))
+        (midOf at (length (now (out .entry)) - at) (now (out .entry)))))) ⌝ }
+{
+    if short {
+        return;
+    }
+    write::write_bytes(&mut out[at..], &bytes[at..]);
+}
+
+// Four words, each taken by its own register, and copied. There is one call in an inner loop: no register waits for
+// another, and the tables are read in place. Of eight bytes the compiler knows that they are there.
+fn block(lanes: &mut [u64; 4], bytes: &[u8], i: usize, short: bool, out: &mut [u8])
+    requires { ⌜ (length (now lanes) ≡ 4) × (i + 56 ≤ length (now bytes)) × (short ≡ false → length (now bytes) ≤ length (now out)) ⌝ }
+    ensures { λ _. ⌜ (length (now (lanes .exit)) ≡ 4)
+        × (waits (now (lanes .exit)) (drop (i + 32) (now (bytes .entry))) ≡ waits (now (lanes .entry)) (drop i (now (bytes .entry))))
+        × ((before : List ℕ) → So-far short (now (bytes .entry)) i before (now (out .entry)) → So-far short (now (bytes .entry)) (i + 32) before (now (out .exit))) ⌝ }
+{
+    let mut l = 0;
+    while l < 4 {
+        let at = i + 8 * l;
+        let word = read_u64(&bytes[at..at + 8], 0);
+        put_word(word, at, short, out);
+        lanes[l] = crc64_far::far(lanes[l] ^ word);
+        l += 1;
+    }
+}
+
+// The end: each register enters at its word.
+fn joined(a: u64, b: u64, c: u64, d: u64, bytes: &[u8], i: usize) -> u64
+    requires { ⌜ i + 24 ≤ length (now bytes) ⌝ }
+    ensures { λ r. ⌜ r ≡ swapped 8 (entering 0 (swapped 8 a ∷ swapped 8 b ∷ swapped 8 c ∷ swapped 8 d ∷ []) (drop i (now (bytes .entry)))) ⌝ }
+{
+    let first = fold_held(a, &bytes[i..i + 8]);
+    let second = fold_held(first ^ b, &bytes[i + 8..i + 16]);
+    let third = fold_held(second ^ c, &bytes[i + 16..i + 24]);
+    fold_held(third ^ d, &bytes[i + 24..])
+}
+
+// The bytes over the front of `out`, and the register, held byte-swapped, after them. Where `out` has not the room
+// nothing is written, and the register is the same.
+pub fn copy_lanes(register: u64, bytes: &[u8], out: &mut [u8]) -> u64
+    ensures { λ r. ⌜ Copies register (now (bytes .entry)) (now (out .entry)) r (now (out .exit)) ⌝ }
+{
+    if bytes.len() < LANES_FROM {
+        return crc64_fast::copy_held(register, bytes, out);
+    }
+    let short = out.len() < bytes.len();
+    let mut lanes = [register, 0, 0, 0];
+    let mut i = 0;
+    while 56 <= bytes.len() - i {
+        block(&mut lanes, bytes, i, short, out);
+        i += 32;
+    }
+    put_rest(bytes, i, short, out);
+    joined(lanes[0], lanes[1], lanes[2], lanes[3], bytes, i)
+}
+
+// The register, held byte-swapped, after the bytes.
+pub fn fold_lanes(register: u64, bytes: &[u8]) -> u64
+    ensures { λ r. ⌜ FoldHeldIs register (now (bytes .entry)) r ⌝ }
+{
+    let mut nowhere = [0u8; 0];
+    copy_lanes(register, bytes, &mut nowhere)
+}
