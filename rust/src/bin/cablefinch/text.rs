@@ -18,7 +18,7 @@ const CELL_BYTES: usize = 32_767;
 
 /// `cablefinch text FILE`.
 pub fn run(arguments: &Arguments, screen: &mut Screen) -> Result<Verdict, Stop> {
-    input::each(arguments, screen, |mut input, screen| {
+    input::each(arguments.operands(), screen, |mut input, screen| {
         let bytes = input.part(screen)?;
         match wire::decode_rowset(&bytes).and_then(|rowset| rowset.write_text()) {
             Ok(text) => {
@@ -44,7 +44,7 @@ pub fn back(arguments: &Arguments, screen: &mut Screen) -> Result<Verdict, Stop>
         ));
     }
     let trimming = arguments.has(&TRIM);
-    input::each(arguments, screen, |mut input, screen| {
+    input::each(arguments.operands(), screen, |mut input, screen| {
         let mut text = input.whole(MOST, screen)?;
         if trimming {
             trim(&mut text);
