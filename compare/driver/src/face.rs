@@ -1,6 +1,7 @@
 //! The static library's functions, over slices: those that the Rust crate calls, and the rest.
 
 #[macro_use]
+#[allow(dead_code)] // compare/why compares what is told of a refusal, over the program
 #[path = "../../../rust/src/sys.rs"]
 mod sys;
 
