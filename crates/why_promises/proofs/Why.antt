@@ -66,7 +66,7 @@ module _ (s : List ℕ) (mode : Mode) (limit ceiling : ℕ) where
   packet-found : Every InPacket (packetChecks s mode limit ceiling)
   unfolding checks fixedLines countLines variableLines sizeLines partLines
   packet-found =
-      (inl refl, (refl, (refl, (refl, (refl, (refl, (tt, (refl, (inr refl, (refl, (refl, (refl, (inr refl, (refl, tt))))))))))))))
+      (refl, (refl, (refl, (refl, (refl, (refl, (tt, (refl, (refl, (refl, (refl, (refl, (refl, (refl, tt))))))))))))))
 
 -- a rowset
 module _ (s : List ℕ) where

@@ -54,7 +54,8 @@ is name other = same (text name) (text other)
 abbrev pub packetValue : List ℕ → String → ℕ → ℕ
 packetValue s name offset =
     decide
-    (is name "headers" ⇒ headers (count s)
+    (is name "fixed-header" ⇒ 36
+    ∷ is name "headers" ⇒ headers (count s)
     ∷ is name "whole" ⇒ whole s (count s)
     ∷ is name "type" ⇒ word 2 s offset
     ∷ (is name "signature" || is name "part-count" || is name "part-size") ⇒ word 4 s offset
@@ -77,7 +78,7 @@ counts code = code =? 9 || code =? 15
 -- what is told was found there
 abbrev pub FoundInPacket : List ℕ → Saying → Type 0
 FoundInPacket s fine = Unit {0}
-FoundInPacket s (waiting name n) = (n ≡ 36) ⊎ (n ≡ packetValue s name 0)
+FoundInPacket s (waiting name n) = n ≡ packetValue s name 0
 FoundInPacket s (refusing code name offset value wanted) = value ≡ packetValue s name offset
 FoundInPacket s (breaking name offset value wanted) = ⊥
 
