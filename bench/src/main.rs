@@ -180,10 +180,10 @@ fn id() -> Guid {
 
 fn checksums(table: &mut Table) {
     for (name, size, batch, bar) in [
-        ("checksum 28 B", 28, 20_000, None),
-        ("checksum 1 KiB", 1024, 1_000, Some(2.5)),
-        ("checksum 64 KiB", 65_536, 20, Some(3.5)),
-        ("checksum 64 MiB", 1 << 26, 1, Some(3.5)),
+        ("checksum 28 B", 28, 20_000, Some(1.5)),
+        ("checksum 1 KiB", 1024, 1_000, Some(8.0)),
+        ("checksum 64 KiB", 65_536, 20, Some(18.0)),
+        ("checksum 64 MiB", 1 << 26, 1, Some(18.0)),
     ] {
         table.line(name, size, bar, || {
             let bytes = noise(size);
@@ -266,12 +266,12 @@ fn packets(table: &mut Table) {
     let huge = || sample(PacketType::Message, 1, 1 << 26, true);
     let bare = || sample(PacketType::Message, 1_000, 1_024, false);
     stream(table);
-    decoded(table, "Ack decoded", 2_000, None, ack);
-    encoded(table, "Ack encoded", 2_000, None, ack);
-    decoded(table, "3 parts of 100 B decoded", 1_000, Some(0.97), small);
-    encoded(table, "3 parts of 100 B encoded", 1_000, Some(0.97), small);
-    decoded(table, "1,000 parts of 1 KiB decoded", 4, Some(3.0), large);
-    encoded(table, "1,000 parts of 1 KiB encoded", 4, Some(3.0), large);
+    decoded(table, "Ack decoded", 2_000, Some(1.2), ack);
+    encoded(table, "Ack encoded", 2_000, Some(1.2), ack);
+    decoded(table, "3 parts of 100 B decoded", 1_000, Some(3.0), small);
+    encoded(table, "3 parts of 100 B encoded", 1_000, Some(3.0), small);
+    decoded(table, "1,000 parts of 1 KiB decoded", 4, Some(7.0), large);
+    encoded(table, "1,000 parts of 1 KiB encoded", 4, Some(7.0), large);
     encoded(table, "one part of 64 MiB encoded", 1, Some(3.0), huge);
     decoded(
         table,

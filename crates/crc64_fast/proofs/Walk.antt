@@ -21,7 +21,6 @@ use Rattle.crc64.specs.Polynomial.{fold}
 use Rattle.crc64.specs.Table.{swapped}
 use Rattle.crc64.proofs.Folding.{fold-append}
 use Rattle.crc64.proofs.Burst.{bytes-take}
-use Rattle.crc64_fast.specs.Stages.{So-far}
 use Rattle.crc64_fast.proofs.Stretch.{after}
 use Rattle.crc64_fast.proofs.Turn.{start}
 use lib.Bits.{bitXor}
@@ -128,6 +127,11 @@ only-read x y {z} e known = subst (λ (b : Bool). z ≡ pick b x y) (sym e) know
 
 pub also-put : {A : Type 0} {short : Bool} (x y : A) {z : A} → short ≡ false → z ≡ y → z ≡ pick short x y
 also-put x y {z} e known = subst (λ (b : Bool). z ≡ pick b x y) (sym e) known
+
+-- what is to be copied by the i-th byte is copied
+abbrev pub So-far : Bool → List ℕ → ℕ → List ℕ → List ℕ → Type 0
+So-far true s i before now = now ≡ before
+So-far false s i before now = Filling s (drop i s) before now i
 
 pub started : (short : Bool) (s : List ℕ) (more : ℕ) → Bytes s → more < 8 → more + 1 ≤ length s
     → {w : ℕ} → w ≡ pick short (word 8 s 0) (word 8 (take (more + 1) s) 0) → (q : ℕ) → q < 2 ^ 64

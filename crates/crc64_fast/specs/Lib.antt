@@ -1,3 +1,2 @@
 -- The checksum with nothing laid out: what each public function promises.
 pub mod Statement
-pub mod Stages

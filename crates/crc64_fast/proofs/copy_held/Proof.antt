@@ -14,10 +14,9 @@ use borrow.Author.Tests.{ltb-true, ltb-false}
 use Rattle.words.specs.Word.{Bytes}
 use Rattle.crc64.specs.Polynomial.{fold}
 use Rattle.crc64.specs.Table.{swapped}
-use Rattle.crc64_fast.specs.Stages.{So-far}
 use Rattle.crc64_fast.proofs.Stretch.{after}
 use Rattle.crc64_fast.proofs.Turn.{nothing, kept-lt, first-there, first-whole, next-whole, none-left, again, ended}
-use Rattle.crc64_fast.proofs.Walk.{none-copied, started, first-so-far, next-so-far, length-so-far, place-so-far, all-so-far, first-kept}
+use Rattle.crc64_fast.proofs.Walk.{So-far, none-copied, started, first-so-far, next-so-far, length-so-far, place-so-far, all-so-far, first-kept}
 use Rattle.crc64_fast.proofs.copy_held.Statement.{statement}
 use Rattle.crc64_fast.proofs.copy_held.Tie as tie
 

@@ -1,15 +1,15 @@
 -- `block` meets its contract. The loop's invariant: after l words the queue is the array from l on and then its first l, it stands
--- for what the whole array stood for, and what is to be copied so far is copied. Assumes nothing.
-use mathlib.Core.Path.{_≡_, refl, sym, _∙_, subst}
-use mathlib.Core.Bool.{false}
+-- for what the whole array stood for, and where the bytes are copied these words are. Assumes nothing.
+use mathlib.Core.Path.{_≡_, refl, sym, _∙_, ap, subst}
 use mathlib.Core.List.{List}
 use Prim.Native.Nat.{ℕ, _+_, _-_, _*_, _≤_, _<_}
 use native.Mathlib.Nat.{add-zero}
 use native.Mathlib.Omega.{arith}
 use lib.ListN.{length, drop, length-set}
 use borrow.Author.Needs.{needs}
+use borrow.Rule.Slice.PartMut.{putMid}
 use Rattle.words.specs.Word.{Bytes}
-use Rattle.crc64_fast.specs.Stages.{So-far}
+use Rattle.words.specs.Filling.{Filling}
 use Rattle.crc64_lanes.specs.Stages.{waits}
 use Rattle.crc64_lanes.proofs.Braid.{queue, begun, one-lane, all-four}
 use Rattle.crc64_lanes.proofs.Copied.{word-there, next-put}
@@ -17,20 +17,20 @@ use Rattle.crc64_lanes.proofs.block.Statement.{statement}
 use Rattle.crc64_lanes.proofs.block.Tie as tie
 
 -- where the next word goes
-within : (i l n m o : ℕ) → l < 4 → i + 56 ≤ n → n ≤ m → o ≡ m → i + 8 * l ≤ o
-within i l n m o few there room same = omega arith
+within : (at l o m : ℕ) → l < 4 → at + 32 ≤ m → o ≡ m → at + 8 * l + 8 ≤ o
+within at l o m few there same = omega arith
 
 whole : (i l : ℕ) → l ≡ 4 → i + 8 * l ≡ i + 32
 whole i l e = omega arith
 
 abbrev Inv-loop : tie.InvT-loop
-Inv-loop lanes₀ bytes i short out₀ l₀ lanes out l =
+Inv-loop lanes₀ bytes i at out₀ l₀ lanes out l =
     (l ≤ 4) × (length lanes ≡ 4) × (waits (queue l lanes) (drop (i + 8 * l) bytes) ≡ waits lanes₀ (drop i bytes))
     × (length out ≡ length out₀)
-    × ((before : List ℕ) → So-far short bytes i before out₀ → So-far short bytes (i + 8 * l) before out)
+    × (at ≡ i → (before : List ℕ) → Filling bytes (drop i bytes) before out₀ i → Filling bytes (drop (i + 8 * l) bytes) before out (i + 8 * l))
 
 abbrev μ-loop : tie.MeasureT-loop
-μ-loop lanes₀ bytes i short out₀ l₀ lanes out l = 4 - l
+μ-loop lanes₀ bytes i at out₀ l₀ lanes out l = 4 - l
 
 loop-holds : tie.Need-loop-holds Inv-loop μ-loop
 loop-holds c =
@@ -40,14 +40,14 @@ loop-holds c =
       first .pre .0,
       begun (a .lanes .now) (a .bytes .now) (a .i),
       refl,
-      λ before f. subst (λ (n : ℕ). So-far (a .short) (a .bytes .now) n before (a .out .now)) (sym (add-zero (a .i))) f,
+      λ e before f. subst (λ (n : ℕ). Filling (a .bytes .now) (drop n (a .bytes .now)) before (a .out .now) n) (sym (add-zero (a .i))) f,
     )
 
-mul-at : tie.Need-mul-at Inv-loop μ-loop
-mul-at c = search needs
+mul-from : tie.Need-mul-from Inv-loop μ-loop
+mul-from c = search needs
 
-add-at : tie.Need-add-at Inv-loop μ-loop
-add-at c = search needs
+add-from : tie.Need-add-from Inv-loop μ-loop
+add-from c = search needs
 
 add-read-u64 : tie.Need-add-read-u64 Inv-loop μ-loop
 add-read-u64 c = search needs
@@ -64,11 +64,29 @@ part-read-u64-end c = search needs
 read-u64-requires : tie.Need-read-u64-requires Inv-loop μ-loop
 read-u64-requires c κs = search needs
 
-put-word-requires : tie.Need-put-word-requires Inv-loop μ-loop
-put-word-requires c κs =
-    let first = c .before .before .before .before .before .before .before in
-    let at = c .before .before .before .before .loop in
-    λ e. within (first .args .i) (at .l) (length (first .args .bytes .now)) (length (first .args .out .now)) _ (search needs) (first .pre .1) (first .pre .2 e) (at .inv .3)
+mul-to : tie.Need-mul-to Inv-loop μ-loop
+mul-to c = search needs
+
+add-to : tie.Need-add-to Inv-loop μ-loop
+add-to c = search needs
+
+add-write-u64 : tie.Need-add-write-u64 Inv-loop μ-loop
+add-write-u64 c = search needs
+
+sub-write-u64 : tie.Need-sub-write-u64 Inv-loop μ-loop
+sub-write-u64 c = search needs
+
+part-write-u64-start : tie.Need-part-write-u64-start Inv-loop μ-loop
+part-write-u64-start c = search needs
+
+part-write-u64-end : tie.Need-part-write-u64-end Inv-loop μ-loop
+part-write-u64-end c =
+    let first = c .before .before .before .before .before .before in
+    let at = c .before .before .before .loop in
+    within (first .args .at) (at .l) (length (at .out)) (length (first .args .out .now)) (search needs) (first .pre .2) (at .inv .3)
+
+write-u64-requires : tie.Need-write-u64-requires Inv-loop μ-loop
+write-u64-requires c κs = search needs
 
 mul-far : tie.Need-mul-far Inv-loop μ-loop
 mul-far c = search needs
@@ -100,12 +118,15 @@ loop-again c =
     let at = c .before .before .before .before .before .before .before .before .before .loop in
     let bytes : Bytes s = λ n. known .shared-slice-known .given n .fits in
     let loaded = word-there s (a .i + 8 * at .l) (c .before .before .before .before .before .before .read-u64 .ensures) in
-    let put = c .before .before .before .before .put-word .ensures in (
+    let to : ℕ = a .at + 8 * at .l in (
       search needs,
       length-set (at .lanes) (at .l) (c .far .result) ∙ at .inv .1,
       one-lane (at .lanes) s (a .i) (at .l) (at .inv .1) (search needs) bytes (first .pre .1) loaded (c .far .ensures) (at .inv .2),
-      put .0 ∙ at .inv .3,
-      λ before f. next-put (a .short) s (a .i) (at .l) before (at .out) (at .inv .4 before f) loaded bytes (search needs) (put .1),
+      search needs,
+      λ e before f.
+          next-put s (a .i) (at .l) to before (at .out) (ap (λ (n : ℕ). n + 8 * at .l) e) (at .inv .4 e before f) loaded bytes (search needs)
+          (within (a .at) (at .l) (length (at .out)) (length (a .out .now)) (search needs) (first .pre .2) (at .inv .3))
+          (ap (putMid to (to + 8 - to) (at .out)) (c .before .before .before .before .write-u64 .ensures)),
     )
 
 same-length : tie.Need-same-length Inv-loop μ-loop
@@ -117,7 +138,9 @@ returns c =
     let at = c .before .loop in (
       at .inv .1,
       all-four (at .lanes) (a .bytes .now) (a .i) (at .l) (at .inv .1) (search needs) (at .inv .2),
-      λ before f. subst (λ (n : ℕ). So-far (a .short) (a .bytes .now) n before (at .out)) (whole (a .i) (at .l) (search needs)) (at .inv .4 before f),
+      at .inv .3,
+      λ e before f.
+          subst (λ (n : ℕ). Filling (a .bytes .now) (drop n (a .bytes .now)) before (at .out) n) (whole (a .i) (at .l) (search needs)) (at .inv .4 e before f),
     )
 
 pub block-spec : {M : Type 1} → statement M
@@ -127,14 +150,20 @@ block-spec =
     Inv-loop
     μ-loop
     loop-holds
-    mul-at
-    add-at
+    mul-from
+    add-from
     add-read-u64
     sub-read-u64
     part-read-u64-start
     part-read-u64-end
     read-u64-requires
-    put-word-requires
+    mul-to
+    add-to
+    add-write-u64
+    sub-write-u64
+    part-write-u64-start
+    part-write-u64-end
+    write-u64-requires
     mul-far
     element-copy-out-far
     far-requires

@@ -1,22 +1,19 @@
--- `put_rest` meets its contract: the bytes, put at their place. Assumes nothing.
-use mathlib.Core.Path.{refl, ap}
+-- `put_rest` meets its contract: the bytes, put at their place where they are copied. Assumes nothing.
+use mathlib.Core.Path.{refl, sym, ap, _∙_}
+use mathlib.Core.Bool.{true≢false}
 use mathlib.Core.List.{List}
 use Prim.Native.Nat.{ℕ, _-_}
 use lib.ListN.{length}
 use borrow.Rule.Slice.PartMut.{putMid}
-use Rattle.crc64_fast.proofs.Walk.{only-read, also-put}
 use borrow.Author.Needs.{needs}
 use Rattle.crc64_lanes.proofs.put_rest.Statement.{statement}
 use Rattle.crc64_lanes.proofs.put_rest.Tie as tie
 
-returns : tie.Need-returns
-returns c = (refl, only-read _ _ (c .if1 .taken) refl)
-
 sub-write-bytes : tie.Need-sub-write-bytes
-sub-write-bytes c = c .before .before .before .pre .1 (c .if1 .left)
+sub-write-bytes c = c .before .before .before .pre .1 (c .if1 .taken)
 
 part-write-bytes-start : tie.Need-part-write-bytes-start
-part-write-bytes-start c = c .before .before .before .pre .1 (c .if1 .left)
+part-write-bytes-start c = c .before .before .before .pre .1 (c .if1 .taken)
 
 part-write-bytes-end : tie.Need-part-write-bytes-end
 part-write-bytes-end c = search needs
@@ -36,18 +33,20 @@ write-bytes-requires c κs = search needs
 same-length : tie.Need-same-length
 same-length c = search needs
 
-returns-2 : tie.Need-returns-2
-returns-2 c =
+returns : tie.Need-returns
+returns c =
     let start = c .before .before .before .before .before .before .before .before in
     let at : ℕ = start .args .at in
     let out : List ℕ = start .args .out .now in
-    (search needs, also-put _ _ (c .before .before .before .before .before .if1 .left) (ap (putMid at (length out - at) out) (c .before .before .write-bytes .ensures)))
+    (search needs, λ e. ap (putMid at (length out - at) out) (c .before .before .write-bytes .ensures))
+
+returns-2 : tie.Need-returns-2
+returns-2 c = (refl, λ e. absurd (true≢false (sym e ∙ c .if1 .left)))
 
 pub put-rest-spec : {M : Type 1} → statement M
 put-rest-spec =
     tie.close
     (tie.spec
-    returns
     sub-write-bytes
     part-write-bytes-start
     part-write-bytes-end
@@ -56,4 +55,5 @@ put-rest-spec =
     part-write-bytes-end-2
     write-bytes-requires
     same-length
+    returns
     returns-2)
