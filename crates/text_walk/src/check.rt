@@ -419,14 +419,13 @@ fn check_end(text: &[u8], at: usize, length: usize, size: usize) -> Value
     requires { ⌜ at ≤ lib.ListN.length (now text) ⌝ }
     ensures { λ r. ⌜ EndChecks (now (text .entry)) at length size r ⌝ }
 {
-    if text.len() <= at {
+    let byte = byte_at(text, at);
+    let ends = ends_value(byte);
+    let large = MAX_ROWSET_SIZE < size;
+    if !ends {
         return Value::Broken(TextError::BadText { place: at });
     }
-    let byte = text[at];
-    if !ends_value(byte) {
-        return Value::Broken(TextError::BadText { place: at });
-    }
-    if MAX_ROWSET_SIZE < size {
+    if large {
         return Value::Broken(TextError::Limit(WireError::RowsetTooLarge { size }));
     }
     Value::Whole {
@@ -486,6 +485,16 @@ fn is_digit(byte: u8) -> bool
     byte < 58
 }
 
+// 11: a row with one value more than it may have.
+fn too_many(row: usize) -> Line
+    ensures { λ r. ⌜ r ≡ Line.Failed (TextError.Limit (WireError.TooManyValues row 1025)) ⌝ }
+{
+    Line::Failed(TextError::Limit(WireError::TooManyValues {
+        row,
+        count: MAX_VALUES_PER_ROW + 1,
+    }))
+}
+
 // The values of a line whose first byte is a digit, in the row of this number; with the row's word the rowset has the size
 // `before`.
 fn check_values(text: &[u8], start: usize, row: usize, before: usize) -> Line
@@ -502,10 +511,7 @@ fn check_values(text: &[u8], start: usize, row: usize, before: usize) -> Line
             return Line::Failed(TextError::BadText { place: at });
         }
         if count == MAX_VALUES_PER_ROW as usize {
-            return Line::Failed(TextError::Limit(WireError::TooManyValues {
-                row,
-                count: MAX_VALUES_PER_ROW + 1,
-            }));
+            return too_many(row);
         }
         match check_value(text, at + 1, (byte - b'0') as u64, size) {
             Value::Broken(refusal) => {

@@ -19,13 +19,22 @@ high-fits-requires : tie.Need-high-fits-requires
 high-fits-requires c κs = search needs
 
 returns-2 : tie.Need-returns-2
-returns-2 c = escape-high (c .before .before .before .before .before .before .args .text .now) (c .before .before .before .before .before .before .args .at) (c .before .before .before .before .if1 .left) _ (c .before .before .capital-value .ensures) _ (c .before .high-fits .ensures) (not-true _ (c .if2 .taken))
+returns-2 c =
+    let start = c .before .before .before .before .before .before in
+    let a = start .args in
+    escape-high (a .text .now) (a .at) (c .before .before .before .before .if1 .left) _
+    (c .before .before .capital-value .ensures) _ (c .before .high-fits .ensures) (not-true _ (c .if2 .taken))
 
 add-second : tie.Need-add-second
 add-second c = search needs
 
 returns-3 : tie.Need-returns-3
-returns-3 c = escape-half (c .before .before .before .before .before .before .before .args .text .now) (c .before .before .before .before .before .before .before .args .at) (c .before .before .before .before .before .if1 .left) _ (c .before .before .before .capital-value .ensures) _ (c .before .before .high-fits .ensures) (not-false _ (c .before .if2 .left)) (c .if3 .taken)
+returns-3 c =
+    let start = c .before .before .before .before .before .before .before in
+    let a = start .args in
+    escape-half (a .text .now) (a .at) (c .before .before .before .before .before .if1 .left) _
+    (c .before .before .before .capital-value .ensures) _ (c .before .before .high-fits .ensures)
+    (not-false _ (c .before .if2 .left)) (c .if3 .taken)
 
 shared-slice-read-capital-value-2 : tie.Need-shared-slice-read-capital-value-2
 shared-slice-read-capital-value-2 c = search needs
@@ -34,28 +43,86 @@ capital-value-requires-2 : tie.Need-capital-value-requires-2
 capital-value-requires-2 c κs = search needs
 
 returns-4 : tie.Need-returns-4
-returns-4 c = escape-low (c .before .before .before .before .before .before .before .before .before .before .args .text .now) (c .before .before .before .before .before .before .before .before .before .before .args .at) (c .before .before .before .before .before .before .before .before .if1 .left) _ (c .before .before .before .before .before .before .capital-value .ensures) _ (c .before .before .before .before .before .high-fits .ensures) (not-false _ (c .before .before .before .before .if2 .left)) (c .before .before .before .if3 .left) _ (c .before .capital-value2 .ensures) (c .if4 .taken)
+returns-4 c =
+    let start = c .before .before .before .before .before .before .before .before .before .before in
+    let a = start .args in
+    escape-low (a .text .now) (a .at) (c .before .before .before .before .before .before .before .before .if1 .left) _
+    (c .before .before .before .before .before .before .capital-value .ensures) _
+    (c .before .before .before .before .before .high-fits .ensures)
+    (not-false _ (c .before .before .before .before .if2 .left)) (c .before .before .before .if3 .left) _
+    (c .before .capital-value2 .ensures) (c .if4 .taken)
 
 mul-is-escaped : tie.Need-mul-is-escaped
-mul-is-escaped c = omega (arith, high-small (c .before .before .before .before .before .before .before .before .before .before .args .text .now) (c .before .before .before .before .before .before .before .before .before .before .args .at) (c .before .before .before .before .before .before .before .before .if1 .left) (c .before .before .before .before .before .before .capital-value .result) (c .before .before .before .before .before .before .capital-value .ensures) (c .before .before .before .before .before .high-fits .result) (c .before .before .before .before .before .high-fits .ensures) (not-false _ (c .before .before .before .before .if2 .left)))
+mul-is-escaped c =
+    let start = c .before .before .before .before .before .before .before .before .before .before in
+    let a = start .args in
+    let capital-value = c .before .before .before .before .before .before .capital-value in
+    let high-fits = c .before .before .before .before .before .high-fits in
+    omega (
+      arith,
+      high-small (a .text .now) (a .at)
+          (c .before .before .before .before .before .before .before .before .if1 .left) (capital-value .result)
+          (capital-value .ensures) (high-fits .result) (high-fits .ensures)
+          (not-false _ (c .before .before .before .before .if2 .left)),
+    )
 
 add-is-escaped : tie.Need-add-is-escaped
-add-is-escaped c = omega (arith, high-small (c .before .before .before .before .before .before .before .before .before .before .args .text .now) (c .before .before .before .before .before .before .before .before .before .before .args .at) (c .before .before .before .before .before .before .before .before .if1 .left) (c .before .before .before .before .before .before .capital-value .result) (c .before .before .before .before .before .before .capital-value .ensures) (c .before .before .before .before .before .high-fits .result) (c .before .before .before .before .before .high-fits .ensures) (not-false _ (c .before .before .before .before .if2 .left)))
+add-is-escaped c =
+    let start = c .before .before .before .before .before .before .before .before .before .before in
+    let a = start .args in
+    let capital-value = c .before .before .before .before .before .before .capital-value in
+    let high-fits = c .before .before .before .before .before .high-fits in
+    omega (
+      arith,
+      high-small (a .text .now) (a .at)
+          (c .before .before .before .before .before .before .before .before .if1 .left) (capital-value .result)
+          (capital-value .ensures) (high-fits .result) (high-fits .ensures)
+          (not-false _ (c .before .before .before .before .if2 .left)),
+    )
 
 cast-is-escaped : tie.Need-cast-is-escaped
-cast-is-escaped c = omega (arith, high-small (c .before .before .before .before .before .before .before .before .before .before .args .text .now) (c .before .before .before .before .before .before .before .before .before .before .args .at) (c .before .before .before .before .before .before .before .before .if1 .left) (c .before .before .before .before .before .before .capital-value .result) (c .before .before .before .before .before .before .capital-value .ensures) (c .before .before .before .before .before .high-fits .result) (c .before .before .before .before .before .high-fits .ensures) (not-false _ (c .before .before .before .before .if2 .left)))
+cast-is-escaped c =
+    let start = c .before .before .before .before .before .before .before .before .before .before in
+    let a = start .args in
+    let capital-value = c .before .before .before .before .before .before .capital-value in
+    let high-fits = c .before .before .before .before .before .high-fits in
+    omega (
+      arith,
+      high-small (a .text .now) (a .at)
+          (c .before .before .before .before .before .before .before .before .if1 .left) (capital-value .result)
+          (capital-value .ensures) (high-fits .result) (high-fits .ensures)
+          (not-false _ (c .before .before .before .before .if2 .left)),
+    )
 
 is-escaped-requires : tie.Need-is-escaped-requires
 is-escaped-requires c κs = search needs
 
 returns-5 : tie.Need-returns-5
-returns-5 c = escape-needless (c .before .before .before .before .before .before .before .before .before .before .before .before .args .text .now) (c .before .before .before .before .before .before .before .before .before .before .before .before .args .at) (c .before .before .before .before .before .before .before .before .before .before .if1 .left) _ (c .before .before .before .before .before .before .before .before .capital-value .ensures) _ (c .before .before .before .before .before .before .before .high-fits .ensures) (not-false _ (c .before .before .before .before .before .before .if2 .left)) (c .before .before .before .before .before .if3 .left) _ (c .before .before .before .capital-value2 .ensures) (c .before .before .if4 .left) _ (c .before .is-escaped .ensures) (not-true _ (c .if5 .taken))
+returns-5 c =
+    let start = c .before .before .before .before .before .before .before .before .before .before .before .before in
+    let a = start .args in
+    escape-needless (a .text .now) (a .at)
+    (c .before .before .before .before .before .before .before .before .before .before .if1 .left) _
+    (c .before .before .before .before .before .before .before .before .capital-value .ensures) _
+    (c .before .before .before .before .before .before .before .high-fits .ensures)
+    (not-false _ (c .before .before .before .before .before .before .if2 .left))
+    (c .before .before .before .before .before .if3 .left) _ (c .before .before .before .capital-value2 .ensures)
+    (c .before .before .if4 .left) _ (c .before .is-escaped .ensures) (not-true _ (c .if5 .taken))
 
 add-t6 : tie.Need-add-t6
 add-t6 c = search needs
 
 returns-6 : tie.Need-returns-6
-returns-6 c = escape-whole (c .before .before .before .before .before .before .before .before .before .before .before .before .args .text .now) (c .before .before .before .before .before .before .before .before .before .before .before .before .args .at) (c .before .before .before .before .before .before .before .before .before .before .if1 .left) _ (c .before .before .before .before .before .before .before .before .capital-value .ensures) _ (c .before .before .before .before .before .before .before .high-fits .ensures) (not-false _ (c .before .before .before .before .before .before .if2 .left)) (c .before .before .before .before .before .if3 .left) _ (c .before .before .before .capital-value2 .ensures) (c .before .before .if4 .left) _ (c .before .is-escaped .ensures) (not-false _ (c .if5 .left))
+returns-6 c =
+    let start = c .before .before .before .before .before .before .before .before .before .before .before .before in
+    let a = start .args in
+    escape-whole (a .text .now) (a .at)
+    (c .before .before .before .before .before .before .before .before .before .before .if1 .left) _
+    (c .before .before .before .before .before .before .before .before .capital-value .ensures) _
+    (c .before .before .before .before .before .before .before .high-fits .ensures)
+    (not-false _ (c .before .before .before .before .before .before .if2 .left))
+    (c .before .before .before .before .before .if3 .left) _ (c .before .before .before .capital-value2 .ensures)
+    (c .before .before .if4 .left) _ (c .before .is-escaped .ensures) (not-false _ (c .if5 .left))
 
 pub place-escape-spec : {M : Type 1} → statement M
 place-escape-spec =
