@@ -4,7 +4,7 @@ use mathlib.Core.Bool.{Bool, true, false}
 use mathlib.Core.List.{List, [], _∷_, _++_, append-nil}
 use mathlib.Core.Logic.{_⊎_, inl, inr, ⊎-elim}
 use Prim.Native.Nat.{ℕ, zero, suc, _+_, _-_, _*_, _/_, _%_, _^_, _<_, _≤_}
-use native.Mathlib.Nat.{pow-succ', pow-le-pow-right}
+use native.Mathlib.Nat.{add-zero, pow-succ'}
 use native.Mathlib.Omega.{arith}
 use borrow.Author.Tests.{lt-ltb, le-ltb}
 use Rattle.words.proofs.DecideLaws.{le-or-gt}
@@ -17,10 +17,11 @@ use Rattle.text_form.specs.Form.{tab, lineFeed, colon, aggregateSign, percentSi
 use Rattle.text_form.specs.Walk.{Phase, fresh, number, letter, digits, full, percent, second, State, at, cellOf, typeOf, smallValue, capitalValue, behindDigit}
 use Rattle.text_steps.specs.Tables.{blobOf, blobs, allCells, areaBytes}
 use Rattle.text_steps.specs.Reading.{from, opened, Signless, EndsThere}
-use Rattle.text_read.specs.Stages.{Has, HasNumber, ReadsId, HasLetter, ReadsLetter, ReadsHead, HasWord, ReadsWord}
+use Rattle.text_read.specs.Stages.{Has, HasNumber, ReadsId, HasLetter, ReadsLetter, ReadsHead, Digits, spelling, HasWord, ReadsWord}
 use Rattle.text_read.specs.declared.fill.Number.{Number}
 use Rattle.text_read.specs.declared.fill.Head.{Head}
 use Rattle.text_steps.proofs.ReadLaws as reads
+use Rattle.text_read.proofs.DigitLaws.{spelling-behind}
 
 -- An id: from the place i on its digits so far spell n
 
@@ -89,31 +90,7 @@ module _ (s : List ℕ) (start first : ℕ) (has : HasNumber s start first) (n :
         let rest = letter-told rows cells final (first-part .1) in
         (omega (arith, first-part .0, rest .0), rest .1, rw (rest .2, rest .3) (rest .4))
 
--- A digit's value without a test
-
-pub plain-digit : (b : ℕ) → smallValue b ≤ 15 → b % 16 + 9 * (b / 64) ≡ smallValue b
-unfolding smallValue
-plain-digit b h = ⊎-elim (λ (k : 48 ≤ b). digits k) (λ (k : b < 48). let big : 16 ≤ 15 = rw (lt-ltb b 48 k) at h in absurd (omega arith)) (le-or-gt 48 b)
-  where
-    last : 97 ≤ b → b % 16 + 9 * (b / 64) ≡ smallValue b
-    last k =
-        ⊎-elim
-        (λ (m : 103 ≤ b). let big : 16 ≤ 15 = rw (le-ltb b 48 (omega arith), le-ltb b 58 (omega arith), le-ltb b 97 k, le-ltb b 103 m) at h in absurd (omega arith))
-        (λ (m : b < 103). rw (le-ltb b 48 (omega arith), le-ltb b 58 (omega arith), le-ltb b 97 k, lt-ltb b 103 m) (omega arith))
-        (le-or-gt 103 b)
-
-    letters : 58 ≤ b → b % 16 + 9 * (b / 64) ≡ smallValue b
-    letters k =
-        ⊎-elim (λ (m : 97 ≤ b). last m)
-        (λ (m : b < 97). let big : 16 ≤ 15 = rw (le-ltb b 48 (omega arith), le-ltb b 58 k, lt-ltb b 97 m) at h in absurd (omega arith)) (le-or-gt 97 b)
-
-    digits : 48 ≤ b → b % 16 + 9 * (b / 64) ≡ smallValue b
-    digits k = ⊎-elim (λ (m : 58 ≤ b). letters m) (λ (m : b < 58). rw (le-ltb b 48 k, lt-ltb b 58 m) (omega arith)) (le-or-gt 58 b)
-
 -- A scalar: `left` digits are to come
-
-pow-most : (k : ℕ) → 16 ^ (16 - k) ≤ 18446744073709551616
-pow-most k = pow-le-pow-right {n = 16} (omega arith) {i = 16 - k} {j = 16} (omega arith)
 
 abbrev pub WordLeft : List ℕ → ℕ → ℕ → ℕ → ℕ → ℕ → Type 0
 WordLeft s start type i w left =
@@ -154,21 +131,53 @@ module _ (s : List ℕ) (start type : ℕ) (has : HasWord s start type) (i w lef
         let next : 16 - (left - 1) ≡ suc (16 - left) = omega (arith, so-far .0) in
         ap (λ (k : ℕ). 16 ^ k) next ∙ pow-succ' 16 (16 - left)
 
-    most : 16 ^ (16 - (left - 1)) ≤ 18446744073709551616
-    most = pow-most (left - 1)
+    pub word-more : WordLeft s start type (i + 1) (w * 16 + smallValue (getD s i 0)) (left - 1)
+    word-more = (
+      omega (arith, so-far .0),
+      omega (arith, so-far .1),
+      omega (arith, power, so-far .2, digit-low),
+      λ rows cells id aggregate final from-start.
+          reads.digit-fits s i rows cells id aggregate type (left - 1) w final (at-digit rows cells id aggregate final from-start) .1,
+    )
 
-    module _ (v : ℕ) (is : v ≡ smallValue (getD s i 0)) where
-      grown : w * 16 + v < 16 ^ (16 - (left - 1))
-      grown = omega (arith, power, so-far .2, digit-low)
+module _ (s : List ℕ) (start type : ℕ) (has : HasWord s start type) where
+  -- k digits more
+  pub record Run (k i w left : ℕ) : Type 0 where
+    pub are-digits : Digits k s i
+    pub there : i + k ≤ length s
+    pub then : WordLeft s start type (i + k) (spelling k s i w) (left - k)
 
-      pub word-fits : w * 16 + v < 18446744073709551616
-      word-fits = omega (arith, grown, most)
+  run : (k i w left : ℕ) → WordLeft s start type i w left → i ≤ length s → k ≤ left → Run k i w left
+  run zero i w left so-far there h =
+      let all : left - 0 ≡ left = omega arith in
+      record { are-digits = tt; there = omega arith; then = rw (add-zero i, all) so-far }
+  run (suc k) i w left so-far there h =
+      let low = digit-low s start type has i w left so-far (omega arith) in
+      let rest = run k (i + 1) (w * 16 + smallValue (getD s i 0)) (left - 1) (word-more s start type has i w left so-far (omega arith)) (omega (arith, digit-there s start type has i w left so-far (omega arith))) (omega arith) in
+      let place : i + 1 + k ≡ i + suc k = omega arith in
+      let fewer : left - 1 - k ≡ left - suc k = omega arith in
+      record {
+        are-digits = (low, rest .are-digits);
+        there = omega (arith, rest .there);
+        then = rw (← place, ← fewer) (rest .then);
+      }
 
-      pub word-more : WordLeft s start type (i + 1) (w * 16 + v) (left - 1)
-      word-more = (
-        omega (arith, so-far .0),
-        omega (arith, so-far .1),
-        grown,
-        λ rows cells id aggregate final from-start.
-            rw is (reads.digit-fits s i rows cells id aggregate type (left - 1) w final (at-digit rows cells id aggregate final from-start) .1),
-      )
+  pub first-half : Run 8 start 0 16
+  first-half =
+      run 8 start 0 16 (word-begins s start type)
+      (omega (arith, digit-there s start type has start 0 16 (word-begins s start type) (omega arith))) (omega arith)
+
+  pub second-half : Run 8 (start + 8) (spelling 8 s start 0) 8
+  second-half = run 8 (start + 8) (spelling 8 s start 0) 8 (first-half .then) (first-half .there) (omega arith)
+
+  -- both are read
+  pub high-fits : spelling 8 s start 0 < 4294967296
+  high-fits = first-half .then .2
+
+  pub word-fits : spelling 8 s start 0 * 4294967296 + spelling 8 s (start + 8) 0 < 18446744073709551616
+  word-fits = rw (spelling-behind s (start + 8) (spelling 8 s start 0)) (second-half .then .2)
+
+  pub halves-read : ReadsWord s start type (spelling 8 s start 0 * 4294967296 + spelling 8 s (start + 8) 0)
+  halves-read =
+      rw (spelling-behind s (start + 8) (spelling 8 s start 0))
+      (word-done s start type has (start + 8 + 8) (spelling 8 s (start + 8) (spelling 8 s start 0)) 0 (second-half .then) (omega arith))

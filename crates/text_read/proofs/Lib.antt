@@ -1,4 +1,5 @@
 -- The laws of the second walk over a text, and of what both walks come to.
+pub mod DigitLaws
 pub mod FillLaws
 pub mod CopyLaws
 pub mod ValueLaws

@@ -1,6 +1,6 @@
 -- What the private stages of the second walk hand on: nobody has to believe it. A stage is for a text whose reading comes to its
 -- end, and says where and in which state that reading goes on, for whatever rows and values were read before. Assumes nothing.
-use Prim.Native.Nat.{ℕ, _+_, _*_, _≤_, _<_}
+use Prim.Native.Nat.{ℕ, zero, suc, _+_, _*_, _≤_, _<_}
 use mathlib.Core.Bool.{Bool, true}
 use mathlib.Core.Path.{_≡_}
 use mathlib.Core.List.{List, [], _∷_, _++_}
@@ -9,7 +9,7 @@ use lib.Seq.{sets}
 use Rattle.places.specs.Machine.{read}
 use Rattle.wire.specs.Layout.{entryWords, known}
 use Rattle.wire.specs.Content.{Content, nothing, word, bytes, Cell, Row}
-use Rattle.text_form.specs.Walk.{Phase, fresh, number, letter, digits, full, percent, State, at, cellOf}
+use Rattle.text_form.specs.Walk.{Phase, fresh, number, letter, digits, full, percent, State, at, cellOf, smallValue}
 use Rattle.text_steps.specs.Tables.{blobOf, blobs, allCells, cellsOf, rowWord, fourthWord, fifthWord, entriesFrom, rowTable, valueTable, areaBytes}
 use Rattle.text_walk.specs.Statement.{walking}
 use Rattle.text_steps.specs.Reading.{from, isDigit, opened, Signless, EndsThere, behindValue}
@@ -46,6 +46,19 @@ ReadsHead s i n r =
     (rows : List Row) (cells : List Cell) (final : List Row) → from s i (at rows cells (number n)) ≡ read final
     → (i ≤ r .next) × (known (r .kind) ≡ true)
     × (from s (r .next) (at rows cells (opened (r .id) (r .aggregate) (r .kind))) ≡ read final)
+
+-- k digits from the place i on; their values, the first in the lowest byte of a word; the number that they spell behind w
+abbrev pub Digits : ℕ → List ℕ → ℕ → Type 0
+Digits zero s i = Unit {0}
+Digits (suc k) s i = (smallValue (getD s i 0) ≤ 15) × Digits k s (i + 1)
+
+abbrev pub digitValues : ℕ → List ℕ → ℕ → ℕ
+digitValues zero s i = 0
+digitValues (suc k) s i = smallValue (getD s i 0) + 256 * digitValues k s (i + 1)
+
+abbrev pub spelling : ℕ → List ℕ → ℕ → ℕ → ℕ
+spelling zero s i w = w
+spelling (suc k) s i w = spelling k s (i + 1) (w * 16 + smallValue (getD s i 0))
 
 abbrev pub HasWord : List ℕ → ℕ → ℕ → Type 0
 HasWord s i type = (id : ℕ) × (aggregate : ℕ) × Has s i (digits id aggregate type 15 0)

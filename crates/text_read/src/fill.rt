@@ -1,16 +1,18 @@
 // The second walk, over a text that the first has found good and for which there is room: the tables and the area are filled.
 ghost use mathlib.Core.Path.{_≡_};
-ghost use Prim.Native.Nat.{_≤_};
-ghost use Rattle.text_form.specs.Walk.{smallValue};
-ghost use Rattle.text_read.specs.Stages.{HasNumber, ReadsId, HasLetter, ReadsLetter, ReadsHead, HasWord, ReadsWord};
+ghost use Prim.Native.Nat.{_+_, _≤_};
+ghost use lib.ListN.{length};
+ghost use Rattle.text_form.specs.Walk.{capitalValue};
+ghost use Rattle.text_read.specs.Stages.{HasNumber, ReadsId, HasLetter, ReadsLetter, ReadsHead};
+ghost use Rattle.text_read.specs.Stages.{Digits, digitValues, spelling, HasWord, ReadsWord};
 ghost use Rattle.text_read.specs.Stages.{HasEscape, ReadsEscape, HasBlob, CopiesUnits, HasContent, ReadsContent};
 ghost use Rattle.text_read.specs.Stages.{HasValue, FillsValue, HasValues, HasLine, FillsLine, HasText, FillsText};
-use text_spell::capital_value;
 use text_spell::type_of;
 use wire::kind::Kind;
 use wire::kind::kind_of;
 use wire::layout::ENTRY_WORDS;
 use wire::layout::NULL_ROW_MARKER;
+use words::read::read_u64;
 
 // Where a piece ends, and the number that it spells.
 pub(crate) struct Number {
@@ -105,12 +107,29 @@ fn read_head(text: &[u8], start: usize, first: u64) -> Head
     read_letter(text, at, number.value, 0)
 }
 
-// The value of a byte that is a hex digit, its letters small. It has no test, for digits come as they will.
-fn digit_value(byte: u8) -> u64
-    requires { ⌜ smallValue byte ≤ 15 ⌝ }
-    ensures { λ r. ⌜ r ≡ smallValue byte ⌝ }
+// The values of eight digits, each in the byte that its digit has in a word: a letter has the bit 64 and lies 39 behind the digit
+// that would follow 9.
+fn digit_values(text: &[u8], at: usize) -> u64
+    requires { ⌜ (at + 8 ≤ length (now text)) × Digits 8 (now text) at ⌝ }
+    ensures { λ r. ⌜ r ≡ digitValues 8 (now (text .entry)) at ⌝ }
 {
-    (byte % 16 + 9 * (byte / 64)) as u64
+    let word = read_u64(&text[at..at + 8], 0);
+    let letters = (word & 0x4040_4040_4040_4040) / 64;
+    word - 0x3030_3030_3030_3030 - 39 * letters
+}
+
+// The number that eight digits spell. Each byte of `pairs` is 16 times a digit and the next, so no carry leaves it; every other one
+// is wanted.
+fn eight_digits(text: &[u8], at: usize) -> u64
+    requires { ⌜ (at + 8 ≤ length (now text)) × Digits 8 (now text) at ⌝ }
+    ensures { λ r. ⌜ r ≡ spelling 8 (now (text .entry)) at 0 ⌝ }
+{
+    let values = digit_values(text, at);
+    let pairs = values * 16 + values / 256;
+    let second = pairs / 65536;
+    let third = second / 65536;
+    let fourth = third / 65536;
+    (pairs % 256) * 16777216 + (second % 256) * 65536 + (third % 256) * 256 + fourth % 256
 }
 
 // The sixteen digits of a scalar's word.
@@ -118,15 +137,15 @@ fn read_word(text: &[u8], start: usize, kind: u64) -> u64
     requires { ⌜ HasWord (now text) start kind ⌝ }
     ensures { λ r. ⌜ ReadsWord (now (text .entry)) start kind r ⌝ }
 {
-    let mut at = start;
-    let mut word: u64 = 0;
-    let mut left: u32 = 16;
-    while 0 < left {
-        word = word * 16 + digit_value(text[at]);
-        at += 1;
-        left -= 1;
-    }
-    word
+    eight_digits(text, start) * 4294967296 + eight_digits(text, start + 8)
+}
+
+// The value of a byte that is a hex digit, its letters capital. It has no test, for digits come as they will.
+fn digit_value(byte: u8) -> u8
+    requires { ⌜ capitalValue byte ≤ 15 ⌝ }
+    ensures { λ r. ⌜ r ≡ capitalValue byte ⌝ }
+{
+    byte % 16 + 9 * (byte / 64)
 }
 
 // The byte that the two digits behind a percent sign spell.
@@ -134,9 +153,7 @@ fn read_escape(text: &[u8], at: usize) -> u8
     requires { ⌜ HasEscape (now text) at ⌝ }
     ensures { λ r. ⌜ ReadsEscape (now (text .entry)) at r ⌝ }
 {
-    let high = capital_value(text[at]);
-    let low = capital_value(text[at + 1]);
-    (high * 16 + low) as u8
+    digit_value(text[at]) * 16 + digit_value(text[at + 1])
 }
 
 // A blob's bytes, to the byte `first` of the area on.

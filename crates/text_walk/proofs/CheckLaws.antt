@@ -1,6 +1,6 @@
 -- How the stages of the walk go on and stop: an id, a head, a scalar, a blob, a value, a line. Assumes nothing.
 use mathlib.Core.Path.{_≡_, refl, sym, _∙_, ap}
-use mathlib.Core.Bool.{Bool, true, false, not, _&&_, _||_}
+use mathlib.Core.Bool.{Bool, true, false, not, _&&_, _||_, true≢false}
 use mathlib.Core.List.{List, [], _∷_, _++_, append-nil}
 use mathlib.Core.Logic.{_⊎_, inl, inr, ⊎-elim}
 use Prim.Native.Nat.{ℕ, zero, suc, _+_, _-_, _*_, _<_, _≤_}
@@ -409,6 +409,24 @@ module _ (s : List ℕ) (i n whole : ℕ) where
               step.goes s i (at rows cells (full c)) (behindValue false rows cells c) h (step.full-tab rows cells c (getD s i 0) (rw with-it small) f)
           each rows cells c with-it false e (inr f) = absurd (eqb-false (getD s i 0) lineFeed e f)
 
+  -- a byte that ends a value, where a byte past the end is 0
+  module _ (b : ℕ) (same : b ≡ getD s i 0) (ends : Bool) (told : ends ≡ (b =? tab || b =? lineFeed)) where
+    of-byte : ends ≡ (getD s i 0 =? tab || getD s i 0 =? lineFeed)
+    of-byte = told ∙ ap (λ (x : ℕ). x =? tab || x =? lineFeed) same
+
+    pub end-not : ends ≡ false → EndChecks s i n whole (Broken (BadText i))
+    end-not isnt = ⊎-elim (λ (past : length s ≤ i). end-early past) (λ (h : i < length s). end-other h ends of-byte isnt) (le-or-gt (length s) i)
+
+    pub end-there : ends ≡ true → i < length s
+    end-there is = ⊎-elim (λ (past : length s ≤ i). absurd (true≢false (sym is ∙ of-byte ∙ ap (λ (x : ℕ). x =? tab || x =? lineFeed) (List·getD-eq-default s 0 {n = i} past)))) (λ (h : i < length s). h) (le-or-gt (length s) i)
+
+    module _ (is : ends ≡ true) where
+      pub end-over : maxSize < whole → EndChecks s i n whole (Broken (Limit (RowsetTooLarge whole)))
+      end-over = end-large (end-there is) ends of-byte is
+
+      pub end-good : whole ≤ maxSize → EndChecks s i n whole (Whole (i + 1) n whole (b =? lineFeed))
+      end-good small = rw same (end-whole (end-there is) ends of-byte is small)
+
 -- From the content to the end
 
 -- a reading that stops where another does
@@ -566,14 +584,14 @@ module _ (s : List ℕ) (start row with-it i count n whole : ℕ) (so-far : Valu
         (step.begin-other rows (so-far .0) (getD s i 0) isnt (λ none. not-true (sym isnt ∙ ap (λ (k : ℕ). isDigit (getD s k 0)) (so-far .8 (sym (so-far .1) ∙ none)) ∙ first)))
 
     module _ (is-digit : isDigit (getD s i 0) ≡ true) where
-      pub values-many : count ≡ maxValues → ValuesCheck s start row with-it (Failed (Limit (TooManyValues row 1025)))
-      values-many most before sum rows is sizes = (
+      pub values-many : (r : Line) → r ≡ Failed (Limit (TooManyValues row 1025)) → count ≡ maxValues → ValuesCheck s start row with-it r
+      values-many r e most = rw e (λ before sum rows is sizes. (
         i,
         so-far .9 rows is (ap (λ (m : ℕ). m + 8) sizes ∙ sum)
             ∙ step.halts s i (at rows (so-far .0) fresh) (inr (refuse 11 (length rows ∷ (maxValues + 1) ∷ []))) h
             (step.begin-many rows (so-far .0) (getD s i 0) is-digit _ (step.ask-many rows (so-far .0) (so-far .1 ∙ most)))
             ∙ ap (λ (m : ℕ). stopped i (inr (refuse 11 (m ∷ 1025 ∷ [])))) is,
-      )
+      ))
 
       module _ (room : count ≡ maxValues → ⊥) where
         begun : (rows : List Row) → length rows ≡ row → length (bytesOfRows rows) + 8 ≡ with-it

@@ -1,3 +1,4 @@
 -- The laws of the walk over a text, and one result for each statement.
 pub mod CheckLaws
+pub mod DigitLaws
 pub mod Unique

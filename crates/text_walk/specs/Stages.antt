@@ -1,17 +1,18 @@
 -- What the private stages of the walk hand on: nobody has to believe it. Each stage says how the reading goes on behind it, for
 -- whatever rows and values were read before, or how it stops. Assumes nothing.
-use Prim.Native.Nat.{ℕ, _+_, _≤_, _<_}
+use Prim.Native.Nat.{ℕ, _+_, _-_, _*_, _≤_, _<_}
 use mathlib.Core.Bool.{Bool, true}
 use mathlib.Core.Path.{_≡_}
 use mathlib.Core.List.{List, [], _∷_, _++_}
 use mathlib.Core.Logic.{inr}
-use lib.ListN.{length}
+use lib.ListN.{length, getD}
 use Rattle.words.specs.Answer.{refuse}
 use Rattle.places.specs.Machine.{stopped}
 use Rattle.wire.specs.Layout.{known, maxRows, maxSize, maxLength}
 use Rattle.wire.specs.Paper.{paper}
 use Rattle.wire.specs.Content.{Content, word, bytes, Cell, Row, cellBytes, rowBytes, bytesOfRows}
-use Rattle.text_form.specs.Walk.{fresh, number, letter, digits, full, percent, State, hash, at, cellOf}
+use Rattle.text_form.specs.Form.{escaped}
+use Rattle.text_form.specs.Walk.{fresh, number, letter, digits, full, percent, State, hash, at, cellOf, smallValue, fitsWord, fitsHigh}
 use Rattle.text_form.specs.Limits.{sizeWith}
 use Rattle.text_steps.specs.Tables.{blobOf, blobs, cellsOf}
 use Rattle.text_steps.specs.Reading.{Reading, from, badAt, opened, Signless, EndsThere, Settled, behindValue}
@@ -55,12 +56,24 @@ HeadChecks s i n (Typed next type) =
     × ((rows : List Row) (cells : List Cell) → from s i (at rows cells (number n)) ≡ from s next (at rows cells (opened id aggregate type)))
 HeadChecks s i n (Headless place) = (rows : List Row) (cells : List Cell) → from s i (at rows cells (number n)) ≡ badAt place
 
+-- hex digits with small letters, n of them
+abbrev pub Digits : ℕ → List ℕ → Type 0
+Digits n s = (k : ℕ) → k < n → smallValue (getD s k 0) ≤ 15
+
+-- sixteen digits that fit a scalar of this type
+abbrev pub Fits : ℕ → List ℕ → Type 0
+Fits type s = (k : ℕ) → k < 16 → fitsWord type (15 - k) (smallValue (getD s k 0)) ≡ true
+
 abbrev pub WordChecks : List ℕ → ℕ → ℕ → Step → Type 0
 WordChecks s i type (To next) =
     (w : ℕ) × Lies s i next
     × ((rows : List Row) (cells : List Cell) (id aggregate : ℕ) → from s i (at rows cells (digits id aggregate type 15 0)) ≡ from s next (at rows cells (full (cellOf id aggregate type (word w)))))
 WordChecks s i type (Bad place) =
     (rows : List Row) (cells : List Cell) (id aggregate : ℕ) → from s i (at rows cells (digits id aggregate type 15 0)) ≡ badAt place
+
+-- the high digit of escaped bytes alone
+abbrev pub High : ℕ → Type 0
+High h = (fitsHigh h ≡ true) × ((low : ℕ) → low ≤ 15 → escaped (h * 16 + low) ≡ true)
 
 abbrev pub EscapeChecks : List ℕ → ℕ → Step → Type 0
 EscapeChecks s i (To next) =

@@ -4,12 +4,12 @@ ghost use mathlib.Core.Path.{_≡_};
 ghost use mathlib.Core.Bool.{true, _||_};
 ghost use Prim.Native.Nat.{_-_, _<_, _≤_};
 ghost use lib.ListN.{length, getD};
-ghost use Rattle.wire.specs.Layout.{maxRows, maxSize};
+ghost use Rattle.wire.specs.Layout.{boolean, maxRows, maxSize};
 ghost use Rattle.words.specs.Decide.{_=?_};
 ghost use Rattle.text_form.specs.Form.{tab, lineFeed, nullSign};
-ghost use Rattle.text_form.specs.Walk.{fitsWord, fitsHigh};
+ghost use Rattle.text_form.specs.Walk.{smallValue, capitalValue, fitsWord, fitsHigh};
 ghost use Rattle.text_steps.specs.Reading.{isDigit};
-ghost use Rattle.text_walk.specs.Stages.{IdChecks, LetterChecks, HeadChecks, WordChecks, EscapeChecks};
+ghost use Rattle.text_walk.specs.Stages.{IdChecks, LetterChecks, HeadChecks, Digits, Fits, WordChecks, High, EscapeChecks};
 ghost use Rattle.text_walk.specs.Stages.{UnitsCheck, EndChecks, ScalarChecks, BlobChecks, ValueChecks, ValuesCheck, NullChecks, LineChecks};
 use super::error::TextError;
 use text_spell::capital_value;
@@ -26,6 +26,12 @@ use wire::layout::MAX_VALUE_LENGTH;
 use wire::layout::MAX_VALUES_PER_ROW;
 use wire::layout::WORD_SIZE;
 use wire::layout::padded;
+use words::read::read_u64;
+
+// Eight digits 0, and seven and a 1, as words are read.
+const ZEROS: u64 = 0x3030_3030_3030_3030;
+
+const ZEROS_AND_ONE: u64 = 0x3130_3030_3030_3030;
 
 // Where the next piece begins, or the place of 19.
 pub(crate) enum Step {
@@ -159,8 +165,8 @@ fn digit_fits(kind: u64, left: u32, value: u32) -> bool
     value == 0
 }
 
-// The sixteen digits of a scalar's word.
-fn check_word(text: &[u8], start: usize, kind: u64) -> Step
+// The sixteen digits of a scalar's word, one after the other, so that the first that does not fit has its place.
+fn place_word(text: &[u8], start: usize, kind: u64) -> Step
     requires { ⌜ start ≤ length (now text) ⌝ }
     ensures { λ r. ⌜ WordChecks (now (text .entry)) start kind r ⌝ }
 {
@@ -179,6 +185,66 @@ fn check_word(text: &[u8], start: usize, kind: u64) -> Step
     Step::To(at)
 }
 
+// 0 where this byte is a hex digit with small letters. Its value is computed as if it were one; the digit of that value
+// must be the byte, and the value at most 15 (g to o pass as far as the digit goes). No test is made, so that the
+// compiler takes sixteen bytes at once.
+fn misfit(byte: u8) -> u8
+    ensures { λ r. ⌜ (r ≡ 0 → smallValue byte ≤ 15) ⌝ }
+{
+    let value = byte % 16 + 9 * (byte / 64);
+    ((48 + value + 39 * ((value + 6) / 16)) ^ byte) | (value / 16)
+}
+
+// Whether sixteen bytes are such digits.
+fn are_digits(bytes: &[u8]) -> bool
+    requires { ⌜ length (now bytes) ≡ 16 ⌝ }
+    ensures { λ r. ⌜ (r ≡ true → Digits 16 (now (bytes .entry))) ⌝ }
+{
+    let mut k: usize = 0;
+    let mut misfits: u8 = 0;
+    while k < 16 {
+        misfits = misfits | misfit(bytes[k]);
+        k += 1;
+    }
+    misfits == 0
+}
+
+// Whether sixteen bytes are the digits of 0 or of 1.
+fn are_boolean(bytes: &[u8]) -> bool
+    requires { ⌜ length (now bytes) ≡ 16 ⌝ }
+    ensures { λ r. ⌜ (r ≡ true → Fits boolean (now (bytes .entry))) ⌝ }
+{
+    if read_u64(&bytes[0..8], 0) != ZEROS {
+        return false;
+    }
+    let low = read_u64(&bytes[8..16], 0);
+    if low == ZEROS {
+        return true;
+    }
+    low == ZEROS_AND_ONE
+}
+
+// The sixteen digits of a scalar's word: all at once where they are there and fit.
+fn check_word(text: &[u8], start: usize, kind: u64) -> Step
+    requires { ⌜ start ≤ length (now text) ⌝ }
+    ensures { λ r. ⌜ WordChecks (now (text .entry)) start kind r ⌝ }
+{
+    if text.len() - start < 16 {
+        return place_word(text, start, kind);
+    }
+    let digits = &text[start..start + 16];
+    if kind == BOOLEAN {
+        if are_boolean(digits) {
+            return Step::To(start + 16);
+        }
+        return place_word(text, start, kind);
+    }
+    if are_digits(digits) {
+        return Step::To(start + 16);
+    }
+    place_word(text, start, kind)
+}
+
 // Whether some escaped byte has this high digit.
 fn high_fits(value: u32) -> bool
     ensures { λ r. ⌜ r ≡ fitsHigh value ⌝ }
@@ -192,8 +258,8 @@ fn high_fits(value: u32) -> bool
     value < 16
 }
 
-// The two digits behind a percent sign, which spell a byte that must be escaped.
-fn check_escape(text: &[u8], at: usize) -> Step
+// The two digits behind a percent sign, one after the other, so that the first that does not fit has its place.
+fn place_escape(text: &[u8], at: usize) -> Step
     requires { ⌜ at ≤ length (now text) ⌝ }
     ensures { λ r. ⌜ EscapeChecks (now (text .entry)) at r ⌝ }
 {
@@ -216,6 +282,68 @@ fn check_escape(text: &[u8], at: usize) -> Step
         return Step::Bad(second);
     }
     Step::To(second + 1)
+}
+
+// Whether this is the high digit of escaped bytes alone.
+fn is_high(high: u8) -> bool
+    ensures { λ r. ⌜ (r ≡ true → High (capitalValue high)) ⌝ }
+{
+    match high {
+        48 => true,
+        49 => true,
+        56 => true,
+        57 => true,
+        65 => true,
+        66 => true,
+        67 => true,
+        68 => true,
+        69 => true,
+        70 => true,
+        _ => false,
+    }
+}
+
+// Whether this is a hex digit with capital letters.
+fn is_low(low: u8) -> bool
+    ensures { λ r. ⌜ (r ≡ true → capitalValue low ≤ 15) ⌝ }
+{
+    match low {
+        48 => true,
+        49 => true,
+        50 => true,
+        51 => true,
+        52 => true,
+        53 => true,
+        54 => true,
+        55 => true,
+        56 => true,
+        57 => true,
+        65 => true,
+        66 => true,
+        67 => true,
+        68 => true,
+        69 => true,
+        70 => true,
+        _ => false,
+    }
+}
+
+// The two digits behind a percent sign, which spell a byte that must be escaped. Most have a high digit that tells so by
+// itself; their value is not wanted here.
+fn check_escape(text: &[u8], at: usize) -> Step
+    requires { ⌜ at ≤ length (now text) ⌝ }
+    ensures { λ r. ⌜ EscapeChecks (now (text .entry)) at r ⌝ }
+{
+    if text.len() - at < 2 {
+        return place_escape(text, at);
+    }
+    if !is_high(text[at]) {
+        return place_escape(text, at);
+    }
+    if !is_low(text[at + 1]) {
+        return place_escape(text, at);
+    }
+    Step::To(at + 2)
 }
 
 // 12: a blob with one byte more than it may have.
@@ -291,14 +419,13 @@ fn check_end(text: &[u8], at: usize, length: usize, size: usize) -> Value
     requires { ⌜ at ≤ lib.ListN.length (now text) ⌝ }
     ensures { λ r. ⌜ EndChecks (now (text .entry)) at length size r ⌝ }
 {
-    if text.len() <= at {
+    let byte = byte_at(text, at);
+    let ends = ends_value(byte);
+    let large = MAX_ROWSET_SIZE < size;
+    if !ends {
         return Value::Broken(TextError::BadText { place: at });
     }
-    let byte = text[at];
-    if !ends_value(byte) {
-        return Value::Broken(TextError::BadText { place: at });
-    }
-    if MAX_ROWSET_SIZE < size {
+    if large {
         return Value::Broken(TextError::Limit(WireError::RowsetTooLarge { size }));
     }
     Value::Whole {
@@ -358,6 +485,16 @@ fn is_digit(byte: u8) -> bool
     byte < 58
 }
 
+// 11: a row with one value more than it may have.
+fn too_many(row: usize) -> Line
+    ensures { λ r. ⌜ r ≡ Line.Failed (TextError.Limit (WireError.TooManyValues row 1025)) ⌝ }
+{
+    Line::Failed(TextError::Limit(WireError::TooManyValues {
+        row,
+        count: MAX_VALUES_PER_ROW + 1,
+    }))
+}
+
 // The values of a line whose first byte is a digit, in the row of this number; with the row's word the rowset has the size
 // `before`.
 fn check_values(text: &[u8], start: usize, row: usize, before: usize) -> Line
@@ -374,10 +511,7 @@ fn check_values(text: &[u8], start: usize, row: usize, before: usize) -> Line
             return Line::Failed(TextError::BadText { place: at });
         }
         if count == MAX_VALUES_PER_ROW as usize {
-            return Line::Failed(TextError::Limit(WireError::TooManyValues {
-                row,
-                count: MAX_VALUES_PER_ROW + 1,
-            }));
+            return too_many(row);
         }
         match check_value(text, at + 1, (byte - b'0') as u64, size) {
             Value::Broken(refusal) => {

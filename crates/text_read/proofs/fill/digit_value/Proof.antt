@@ -1,5 +1,5 @@
 -- `fill::digit_value` meets its contract. Assumes nothing.
-use Rattle.text_read.proofs.FillLaws.{plain-digit}
+use Rattle.text_read.proofs.DigitLaws.{capital-digit}
 use borrow.Author.Needs.{needs}
 use Rattle.text_read.proofs.fill.digit_value.Statement.{statement}
 use Rattle.text_read.proofs.fill.digit_value.Tie as tie
@@ -10,11 +10,8 @@ mul-result c = search needs
 add-result : tie.Need-add-result
 add-result c = search needs
 
-cast-result : tie.Need-cast-result
-cast-result c = search needs
-
 returns : tie.Need-returns
-returns c = plain-digit _ (c .pre)
+returns c = capital-digit _ (c .pre)
 
 pub digit-value-spec : {M : Type 1} → statement M
-digit-value-spec = tie.close (tie.spec mul-result add-result cast-result returns)
+digit-value-spec = tie.close (tie.spec mul-result add-result returns)

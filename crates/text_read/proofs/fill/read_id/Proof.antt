@@ -24,19 +24,51 @@ add-t11 : tie.Need-add-t11 Inv-loop μ-loop
 add-t11 c = omega (arith, c .before .before .loop-test .taken, c .before .before .before .before .good)
 
 returns : tie.Need-returns Inv-loop μ-loop
-returns c = id-colon (c .before .before .before .before .args .text .now) (c .before .before .before .before .args .start) (c .before .before .before .before .args .first) (c .before .before .before .before .pre) (c .before .before .before .loop .at) (c .before .before .before .loop .id) (c .before .before .before .loop .inv) (c .if1 .taken)
+returns c =
+    let start = c .before .before .before .before in
+    let a = start .args in
+    let turn = c .before .before .before .loop in
+    id-colon (a .text .now) (a .start) (a .first) (start .pre) (turn .at) (turn .id) (turn .inv) (c .if1 .taken)
 
 mul-id : tie.Need-mul-id Inv-loop μ-loop
-mul-id c = omega (arith, id-small (c .before .before .before .before .args .text .now) (c .before .before .before .before .args .start) (c .before .before .before .before .args .first) (c .before .before .before .before .pre) (c .before .before .before .loop .at) (c .before .before .before .loop .id) (c .before .before .before .loop .inv) (c .if1 .left))
+mul-id c =
+    let start = c .before .before .before .before in
+    let a = start .args in
+    let turn = c .before .before .before .loop in
+    omega (
+      arith,
+      id-small (a .text .now) (a .start) (a .first) (start .pre) (turn .at) (turn .id) (turn .inv)
+          (c .if1 .left),
+    )
 
 sub-id : tie.Need-sub-id Inv-loop μ-loop
-sub-id c = id-low (c .before .before .before .before .args .text .now) (c .before .before .before .before .args .start) (c .before .before .before .before .args .first) (c .before .before .before .before .pre) (c .before .before .before .loop .at) (c .before .before .before .loop .id) (c .before .before .before .loop .inv) (c .if1 .left)
+sub-id c =
+    let start = c .before .before .before .before in
+    let a = start .args in
+    let turn = c .before .before .before .loop in
+    id-low (a .text .now) (a .start) (a .first) (start .pre) (turn .at) (turn .id) (turn .inv) (c .if1 .left)
 
 cast-id : tie.Need-cast-id Inv-loop μ-loop
-cast-id c = omega (arith, id-small (c .before .before .before .before .args .text .now) (c .before .before .before .before .args .start) (c .before .before .before .before .args .first) (c .before .before .before .before .pre) (c .before .before .before .loop .at) (c .before .before .before .loop .id) (c .before .before .before .loop .inv) (c .if1 .left))
+cast-id c =
+    let start = c .before .before .before .before in
+    let a = start .args in
+    let turn = c .before .before .before .loop in
+    omega (
+      arith,
+      id-small (a .text .now) (a .start) (a .first) (start .pre) (turn .at) (turn .id) (turn .inv)
+          (c .if1 .left),
+    )
 
 add-id : tie.Need-add-id Inv-loop μ-loop
-add-id c = omega (arith, id-small (c .before .before .before .before .args .text .now) (c .before .before .before .before .args .start) (c .before .before .before .before .args .first) (c .before .before .before .before .pre) (c .before .before .before .loop .at) (c .before .before .before .loop .id) (c .before .before .before .loop .inv) (c .if1 .left))
+add-id c =
+    let start = c .before .before .before .before in
+    let a = start .args in
+    let turn = c .before .before .before .loop in
+    omega (
+      arith,
+      id-small (a .text .now) (a .start) (a .first) (start .pre) (turn .at) (turn .id) (turn .inv)
+          (c .if1 .left),
+    )
 
 add-at : tie.Need-add-at Inv-loop μ-loop
 add-at c = omega (arith, c .before .before .loop-test .taken, c .before .before .before .before .good)
@@ -45,10 +77,22 @@ loop-less : tie.Need-loop-less Inv-loop μ-loop
 loop-less c = omega (arith, c .before .before .loop-test .taken)
 
 loop-again : tie.Need-loop-again Inv-loop μ-loop
-loop-again c = id-more (c .before .before .before .before .args .text .now) (c .before .before .before .before .args .start) (c .before .before .before .before .args .first) (c .before .before .before .before .pre) (c .before .before .before .loop .at) (c .before .before .before .loop .id) (c .before .before .before .loop .inv) (c .if1 .left)
+loop-again c =
+    let start = c .before .before .before .before in
+    let a = start .args in
+    let turn = c .before .before .before .loop in
+    id-more (a .text .now) (a .start) (a .first) (start .pre) (turn .at) (turn .id) (turn .inv) (c .if1 .left)
 
 returns-2 : tie.Need-returns-2 Inv-loop μ-loop
-returns-2 c = absurd (omega (arith, id-there (c .before .before .args .text .now) (c .before .before .args .start) (c .before .before .args .first) (c .before .before .pre) (c .before .loop .at) (c .before .loop .id) (c .before .loop .inv), c .loop-test .left))
+returns-2 c =
+    let start = c .before .before in
+    let a = start .args in
+    let turn = c .before .loop in
+    absurd (omega (
+      arith,
+      id-there (a .text .now) (a .start) (a .first) (start .pre) (turn .at) (turn .id) (turn .inv),
+      c .loop-test .left,
+    ))
 
 pub read-id-spec : {M : Type 1} → statement M
 read-id-spec =

@@ -6,7 +6,10 @@ use Rattle.text_walk.proofs.check.byte_at.Statement.{statement}
 use Rattle.text_walk.proofs.check.byte_at.Tie as tie
 
 returns : tie.Need-returns
-returns c = sym (List·getD-eq-default (c .before .args .text .now) 0 {n = c .before .args .at} (c .if1 .taken))
+returns c =
+    let start = c .before in
+    let a = start .args in
+    sym (List·getD-eq-default (a .text .now) 0 {n = a .at} (c .if1 .taken))
 
 shared-slice-read-result : tie.Need-shared-slice-read-result
 shared-slice-read-result c = search needs

@@ -1,41 +1,45 @@
 -- `check::check_end` meets its contract. Assumes nothing.
-use mathlib.Core.Path.{sym, _∙_}
 use native.Mathlib.Omega.{arith}
-use borrow.Author.Tests.{not-true, not-false}
-use Rattle.text_walk.proofs.CheckLaws.{end-early, end-other, end-large, end-whole}
+use borrow.Author.Tests.{not-true, not-false, ltb-true, ltb-false}
+use Rattle.text_walk.proofs.CheckLaws.{end-not, end-there, end-over, end-good}
 use borrow.Author.Needs.{needs}
 use Rattle.text_walk.proofs.check.check_end.Statement.{statement}
 use Rattle.text_walk.proofs.check.check_end.Tie as tie
 
-returns : tie.Need-returns
-returns c = end-early (c .before .before .args .text .now) (c .before .before .args .at) (c .before .before .args .length) (c .before .before .args .size) (c .if1 .taken)
-
-shared-slice-read-byte : tie.Need-shared-slice-read-byte
-shared-slice-read-byte c = search needs
+byte-at-requires : tie.Need-byte-at-requires
+byte-at-requires c κs = search needs
 
 ends-value-requires : tie.Need-ends-value-requires
 ends-value-requires c κs = search needs
 
+returns : tie.Need-returns
+returns c =
+    let a = c .before .before .before .before .args in
+    end-not (a .text .now) (a .at) (a .length) (a .size) _ (c .before .before .byte-at .ensures) _ (c .before .ends-value .ensures)
+    (not-true _ (c .if1 .taken))
+
 returns-2 : tie.Need-returns-2
-returns-2 c = end-other (c .before .before .before .before .before .args .text .now) (c .before .before .before .before .before .args .at) (c .before .before .before .before .before .args .length) (c .before .before .before .before .before .args .size) (c .before .before .before .if1 .left) _ (c .before .ends-value .ensures) (not-true _ (c .if2 .taken))
+returns-2 c =
+    let a = c .before .before .before .before .before .args in
+    end-over (a .text .now) (a .at) (a .length) (a .size) _ (c .before .before .before .byte-at .ensures) _
+    (c .before .before .ends-value .ensures) (not-false _ (c .before .if1 .left)) (ltb-true _ _ (c .if2 .taken))
+
+add-t12 : tie.Need-add-t12
+add-t12 c =
+    let start = c .before .before .before .before .before in
+    let a = start .args in
+    omega (
+      arith,
+      start .good,
+      end-there (a .text .now) (a .at) (a .length) (a .size) _ (c .before .before .before .byte-at .ensures) _
+          (c .before .before .ends-value .ensures) (not-false _ (c .before .if1 .left)),
+    )
 
 returns-3 : tie.Need-returns-3
-returns-3 c = end-large (c .before .before .before .before .before .before .args .text .now) (c .before .before .before .before .before .before .args .at) (c .before .before .before .before .before .before .args .length) (c .before .before .before .before .before .before .args .size) (c .before .before .before .before .if1 .left) _ (c .before .before .ends-value .ensures) (not-false _ (c .before .if2 .left)) (c .if3 .taken)
-
-add-t6 : tie.Need-add-t6
-add-t6 c = search needs
-
-returns-4 : tie.Need-returns-4
-returns-4 c = end-whole (c .before .before .before .before .before .before .args .text .now) (c .before .before .before .before .before .before .args .at) (c .before .before .before .before .before .before .args .length) (c .before .before .before .before .before .before .args .size) (c .before .before .before .before .if1 .left) _ (c .before .before .ends-value .ensures) (not-false _ (c .before .if2 .left)) (c .if3 .left)
+returns-3 c =
+    let a = c .before .before .before .before .before .args in
+    end-good (a .text .now) (a .at) (a .length) (a .size) _ (c .before .before .before .byte-at .ensures) _
+    (c .before .before .ends-value .ensures) (not-false _ (c .before .if1 .left)) (ltb-false _ _ (c .if2 .left))
 
 pub check-end-spec : {M : Type 1} → statement M
-check-end-spec =
-    tie.close
-    (tie.spec
-    returns
-    shared-slice-read-byte
-    ends-value-requires
-    returns-2
-    returns-3
-    add-t6
-    returns-4)
+check-end-spec = tie.close (tie.spec byte-at-requires ends-value-requires returns returns-2 add-t12 returns-3)

@@ -1,80 +1,67 @@
--- `check::check_escape` meets its contract: two digits, each looked at when its turn comes. Assumes nothing.
-use native.Mathlib.Omega.{arith}
-use borrow.Author.Tests.{not-true, not-false}
-use Rattle.text_walk.proofs.CheckLaws.{escape-early, escape-high, high-small, escape-half, escape-low, escape-needless, escape-whole}
+-- `check::check_escape` meets its contract. Assumes nothing.
+use borrow.Author.Tests.{not-false}
+use Rattle.text_walk.proofs.DigitLaws.{escape-by}
 use borrow.Author.Needs.{needs}
 use Rattle.text_walk.proofs.check.check_escape.Statement.{statement}
 use Rattle.text_walk.proofs.check.check_escape.Tie as tie
 
+sub-if1 : tie.Need-sub-if1
+sub-if1 c = search needs
+
+place-escape-requires : tie.Need-place-escape-requires
+place-escape-requires c κs = search needs
+
 returns : tie.Need-returns
-returns c = escape-early _ _ (c .if1 .taken)
+returns c = search needs
 
-shared-slice-read-capital-value : tie.Need-shared-slice-read-capital-value
-shared-slice-read-capital-value c = search needs
+shared-slice-read-is-high : tie.Need-shared-slice-read-is-high
+shared-slice-read-is-high c = search needs
 
-capital-value-requires : tie.Need-capital-value-requires
-capital-value-requires c κs = search needs
+is-high-requires : tie.Need-is-high-requires
+is-high-requires c κs = search needs
 
-high-fits-requires : tie.Need-high-fits-requires
-high-fits-requires c κs = search needs
+place-escape-requires-2 : tie.Need-place-escape-requires-2
+place-escape-requires-2 c κs = search needs
 
 returns-2 : tie.Need-returns-2
-returns-2 c = escape-high (c .before .before .before .before .before .before .args .text .now) (c .before .before .before .before .before .before .args .at) (c .before .before .before .before .if1 .left) _ (c .before .before .capital-value .ensures) _ (c .before .high-fits .ensures) (not-true _ (c .if2 .taken))
+returns-2 c = search needs
 
-add-second : tie.Need-add-second
-add-second c = search needs
+add-is-low : tie.Need-add-is-low
+add-is-low c = search needs
+
+shared-slice-read-is-low : tie.Need-shared-slice-read-is-low
+shared-slice-read-is-low c = search needs
+
+is-low-requires : tie.Need-is-low-requires
+is-low-requires c κs = search needs
+
+place-escape-requires-3 : tie.Need-place-escape-requires-3
+place-escape-requires-3 c κs = search needs
 
 returns-3 : tie.Need-returns-3
-returns-3 c = escape-half (c .before .before .before .before .before .before .before .args .text .now) (c .before .before .before .before .before .before .before .args .at) (c .before .before .before .before .before .if1 .left) _ (c .before .before .before .capital-value .ensures) _ (c .before .before .high-fits .ensures) (not-false _ (c .before .if2 .left)) (c .if3 .taken)
+returns-3 c = search needs
 
-shared-slice-read-capital-value-2 : tie.Need-shared-slice-read-capital-value-2
-shared-slice-read-capital-value-2 c = search needs
-
-capital-value-requires-2 : tie.Need-capital-value-requires-2
-capital-value-requires-2 c κs = search needs
+add-t4 : tie.Need-add-t4
+add-t4 c = search needs
 
 returns-4 : tie.Need-returns-4
-returns-4 c = escape-low (c .before .before .before .before .before .before .before .before .before .before .args .text .now) (c .before .before .before .before .before .before .before .before .before .before .args .at) (c .before .before .before .before .before .before .before .before .if1 .left) _ (c .before .before .before .before .before .before .capital-value .ensures) _ (c .before .before .before .before .before .high-fits .ensures) (not-false _ (c .before .before .before .before .if2 .left)) (c .before .before .before .if3 .left) _ (c .before .capital-value2 .ensures) (c .if4 .taken)
-
-mul-is-escaped : tie.Need-mul-is-escaped
-mul-is-escaped c = omega (arith, high-small (c .before .before .before .before .before .before .before .before .before .before .args .text .now) (c .before .before .before .before .before .before .before .before .before .before .args .at) (c .before .before .before .before .before .before .before .before .if1 .left) (c .before .before .before .before .before .before .capital-value .result) (c .before .before .before .before .before .before .capital-value .ensures) (c .before .before .before .before .before .high-fits .result) (c .before .before .before .before .before .high-fits .ensures) (not-false _ (c .before .before .before .before .if2 .left)))
-
-add-is-escaped : tie.Need-add-is-escaped
-add-is-escaped c = omega (arith, high-small (c .before .before .before .before .before .before .before .before .before .before .args .text .now) (c .before .before .before .before .before .before .before .before .before .before .args .at) (c .before .before .before .before .before .before .before .before .if1 .left) (c .before .before .before .before .before .before .capital-value .result) (c .before .before .before .before .before .before .capital-value .ensures) (c .before .before .before .before .before .high-fits .result) (c .before .before .before .before .before .high-fits .ensures) (not-false _ (c .before .before .before .before .if2 .left)))
-
-cast-is-escaped : tie.Need-cast-is-escaped
-cast-is-escaped c = omega (arith, high-small (c .before .before .before .before .before .before .before .before .before .before .args .text .now) (c .before .before .before .before .before .before .before .before .before .before .args .at) (c .before .before .before .before .before .before .before .before .if1 .left) (c .before .before .before .before .before .before .capital-value .result) (c .before .before .before .before .before .before .capital-value .ensures) (c .before .before .before .before .before .high-fits .result) (c .before .before .before .before .before .high-fits .ensures) (not-false _ (c .before .before .before .before .if2 .left)))
-
-is-escaped-requires : tie.Need-is-escaped-requires
-is-escaped-requires c κs = search needs
-
-returns-5 : tie.Need-returns-5
-returns-5 c = escape-needless (c .before .before .before .before .before .before .before .before .before .before .before .before .args .text .now) (c .before .before .before .before .before .before .before .before .before .before .before .before .args .at) (c .before .before .before .before .before .before .before .before .before .before .if1 .left) _ (c .before .before .before .before .before .before .before .before .capital-value .ensures) _ (c .before .before .before .before .before .before .before .high-fits .ensures) (not-false _ (c .before .before .before .before .before .before .if2 .left)) (c .before .before .before .before .before .if3 .left) _ (c .before .before .before .capital-value2 .ensures) (c .before .before .if4 .left) _ (c .before .is-escaped .ensures) (not-true _ (c .if5 .taken))
-
-add-t6 : tie.Need-add-t6
-add-t6 c = search needs
-
-returns-6 : tie.Need-returns-6
-returns-6 c = escape-whole (c .before .before .before .before .before .before .before .before .before .before .before .before .args .text .now) (c .before .before .before .before .before .before .before .before .before .before .before .before .args .at) (c .before .before .before .before .before .before .before .before .before .before .if1 .left) _ (c .before .before .before .before .before .before .before .before .capital-value .ensures) _ (c .before .before .before .before .before .before .before .high-fits .ensures) (not-false _ (c .before .before .before .before .before .before .if2 .left)) (c .before .before .before .before .before .if3 .left) _ (c .before .before .before .capital-value2 .ensures) (c .before .before .if4 .left) _ (c .before .is-escaped .ensures) (not-false _ (c .if5 .left))
+returns-4 c = escape-by _ _ (search needs) (c .before .before .before .before .is-high .ensures (not-false _ (c .before .before .before .if2 .left))) (c .before .is-low .ensures (not-false _ (c .if3 .left)))
 
 pub check-escape-spec : {M : Type 1} → statement M
 check-escape-spec =
     tie.close
     (tie.spec
+    sub-if1
+    place-escape-requires
     returns
-    shared-slice-read-capital-value
-    capital-value-requires
-    high-fits-requires
+    shared-slice-read-is-high
+    is-high-requires
+    place-escape-requires-2
     returns-2
-    add-second
+    add-is-low
+    shared-slice-read-is-low
+    is-low-requires
+    place-escape-requires-3
     returns-3
-    shared-slice-read-capital-value-2
-    capital-value-requires-2
-    returns-4
-    mul-is-escaped
-    add-is-escaped
-    cast-is-escaped
-    is-escaped-requires
-    returns-5
-    add-t6
-    returns-6)
+    add-t4
+    returns-4)

@@ -19,22 +19,55 @@ byte-at-requires : tie.Need-byte-at-requires
 byte-at-requires c κs = search needs
 
 add-check-letter : tie.Need-add-check-letter
-add-check-letter c = omega (arith, sign-inside (c .before .before .before .before .before .before .before .args .text .now) (c .before .before .before .before .before .before .before .args .start) (c .before .before .before .before .before .before .before .args .first) (c .before .before .before .before .before .check-id .result) (c .before .before .before .before .before .check-id .ensures) _ (c .before .before .before .next .given .1) (sym (c .before .byte-at .ensures) ∙ c .if1 .taken), c .before .before .before .before .before .before .before .good)
+add-check-letter c =
+    let start = c .before .before .before .before .before .before .before in
+    let a = start .args in
+    let check-id = c .before .before .before .before .before .check-id in
+    omega (
+      arith,
+      sign-inside (a .text .now) (a .start) (a .first) (check-id .result) (check-id .ensures) _
+          (c .before .before .before .next .given .1) (sym (c .before .byte-at .ensures) ∙ c .if1 .taken),
+      start .good,
+    )
 
 check-letter-requires : tie.Need-check-letter-requires
-check-letter-requires c κs = sign-inside (c .before .before .before .before .before .before .before .args .text .now) (c .before .before .before .before .before .before .before .args .start) (c .before .before .before .before .before .before .before .args .first) (c .before .before .before .before .before .check-id .result) (c .before .before .before .before .before .check-id .ensures) _ (c .before .before .before .next .given .1) (sym (c .before .byte-at .ensures) ∙ c .if1 .taken)
+check-letter-requires c κs =
+    let start = c .before .before .before .before .before .before .before in
+    let a = start .args in
+    let check-id = c .before .before .before .before .before .check-id in
+    sign-inside (a .text .now) (a .start) (a .first) (check-id .result) (check-id .ensures) _
+    (c .before .before .before .next .given .1) (sym (c .before .byte-at .ensures) ∙ c .if1 .taken)
 
 returns : tie.Need-returns
-returns c = head-sign (c .before .before .before .before .before .before .before .before .args .text .now) (c .before .before .before .before .before .before .before .before .args .start) (c .before .before .before .before .before .before .before .before .args .first) (c .before .before .before .before .before .before .check-id .result) (c .before .before .before .before .before .before .check-id .ensures) _ (c .before .before .before .before .next .given .1) (sym (c .before .before .byte-at .ensures) ∙ c .before .if1 .taken) (c .check-letter .result) (c .check-letter .ensures)
+returns c =
+    let start = c .before .before .before .before .before .before .before .before in
+    let a = start .args in
+    let check-id = c .before .before .before .before .before .before .check-id in
+    head-sign (a .text .now) (a .start) (a .first) (check-id .result) (check-id .ensures) _
+    (c .before .before .before .before .next .given .1)
+    (sym (c .before .before .byte-at .ensures) ∙ c .before .if1 .taken) (c .check-letter .result)
+    (c .check-letter .ensures)
 
 check-letter-requires-2 : tie.Need-check-letter-requires-2
-check-letter-requires-2 c κs = id-inside (c .before .before .before .before .before .before .before .args .text .now) (c .before .before .before .before .before .before .before .args .start) (c .before .before .before .before .before .before .before .args .first) (c .before .before .before .before .before .check-id .result) (c .before .before .before .before .before .check-id .ensures) _ (c .before .before .before .next .given .1)
+check-letter-requires-2 c κs =
+    let start = c .before .before .before .before .before .before .before in
+    let a = start .args in
+    let check-id = c .before .before .before .before .before .check-id in
+    id-inside (a .text .now) (a .start) (a .first) (check-id .result) (check-id .ensures) _
+    (c .before .before .before .next .given .1)
 
 returns-2 : tie.Need-returns-2
 returns-2 c = head-bad _ _ _ _ (c .before .before .before .check-id .ensures) _ (c .before .place .given .1)
 
 returns-3 : tie.Need-returns-3
-returns-3 c = head-plain (c .before .before .before .before .before .before .before .before .args .text .now) (c .before .before .before .before .before .before .before .before .args .start) (c .before .before .before .before .before .before .before .before .args .first) (c .before .before .before .before .before .before .check-id .result) (c .before .before .before .before .before .before .check-id .ensures) _ (c .before .before .before .before .next .given .1) (λ e. c .before .if1 .left (c .before .before .byte-at .ensures ∙ e)) (c .check-letter2 .result) (c .check-letter2 .ensures)
+returns-3 c =
+    let start = c .before .before .before .before .before .before .before .before in
+    let a = start .args in
+    let check-id = c .before .before .before .before .before .before .check-id in
+    head-plain (a .text .now) (a .start) (a .first) (check-id .result) (check-id .ensures) _
+    (c .before .before .before .before .next .given .1)
+    (λ e. c .before .if1 .left (c .before .before .byte-at .ensures ∙ e)) (c .check-letter2 .result)
+    (c .check-letter2 .ensures)
 
 pub check-head-spec : {M : Type 1} → statement M
 check-head-spec =

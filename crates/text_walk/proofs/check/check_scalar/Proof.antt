@@ -15,13 +15,28 @@ enum-known-next : tie.Need-enum-known-next
 enum-known-next c = search needs
 
 check-end-requires : tie.Need-check-end-requires
-check-end-requires c κs = word-inside (c .before .before .before .before .before .args .text .now) (c .before .before .before .before .before .args .at) (c .before .before .before .before .before .args .kind) (c .before .before .before .before .before .args .size) (c .before .before .before .check-word .result) (c .before .before .before .check-word .ensures) _ (c .before .next .given .1)
+check-end-requires c κs =
+    let start = c .before .before .before .before .before in
+    let a = start .args in
+    let check-word = c .before .before .before .check-word in
+    word-inside (a .text .now) (a .at) (a .kind) (a .size) (check-word .result) (check-word .ensures) _
+    (c .before .next .given .1)
 
 returns : tie.Need-returns
-returns c = scalar-bad (c .before .before .before .before .before .args .text .now) (c .before .before .before .before .before .args .at) (c .before .before .before .before .before .args .kind) (c .before .before .before .before .before .args .size) (c .before .before .before .check-word .result) (c .before .before .before .check-word .ensures) _ (c .before .place .given .1)
+returns c =
+    let start = c .before .before .before .before .before in
+    let a = start .args in
+    let check-word = c .before .before .before .check-word in
+    scalar-bad (a .text .now) (a .at) (a .kind) (a .size) (check-word .result) (check-word .ensures) _
+    (c .before .place .given .1)
 
 returns-2 : tie.Need-returns-2
-returns-2 c = scalar-ends (c .before .before .before .before .before .before .args .text .now) (c .before .before .before .before .before .before .args .at) (c .before .before .before .before .before .before .args .kind) (c .before .before .before .before .before .before .args .size) (c .before .before .before .before .check-word .result) (c .before .before .before .before .check-word .ensures) _ (c .before .before .next .given .1) (c .check-end .result) (c .check-end .ensures)
+returns-2 c =
+    let start = c .before .before .before .before .before .before in
+    let a = start .args in
+    let check-word = c .before .before .before .before .check-word in
+    scalar-ends (a .text .now) (a .at) (a .kind) (a .size) (check-word .result) (check-word .ensures) _
+    (c .before .before .next .given .1) (c .check-end .result) (c .check-end .ensures)
 
 pub check-scalar-spec : {M : Type 1} → statement M
 check-scalar-spec =

@@ -20,7 +20,9 @@ cast-limit : tie.Need-cast-limit Inv-loop μ-loop
 cast-limit c = search needs
 
 add-limit : tie.Need-add-limit Inv-loop μ-loop
-add-limit c = omega (arith, c .before .pre, c .before .good)
+add-limit c =
+    let start = c .before in
+    omega (arith, start .pre, start .good)
 
 loop-holds : tie.Need-loop-holds Inv-loop μ-loop
 loop-holds c = to-begin _ _ (c .before .pre)

@@ -9,7 +9,9 @@ use Rattle.text_walk.proofs.check.check_value.Statement.{statement}
 use Rattle.text_walk.proofs.check.check_value.Tie as tie
 
 check-head-requires : tie.Need-check-head-requires
-check-head-requires c κs = (c .before .pre .0, c .before .pre .1)
+check-head-requires c κs =
+    let start = c .before in
+    (start .pre .0, start .pre .1)
 
 enum-known-place : tie.Need-enum-known-place
 enum-known-place c = search needs
@@ -27,7 +29,12 @@ add-check-end : tie.Need-add-check-end
 add-check-end c = omega (arith, c .before .before .before .before .before .before .before .before .pre .2)
 
 check-end-requires : tie.Need-check-end-requires
-check-end-requires c κs = head-inside (c .before .before .before .before .before .before .before .before .args .text .now) (c .before .before .before .before .before .before .before .before .args .start) (c .before .before .before .before .before .before .before .before .args .first) (c .before .before .before .before .before .before .before .before .args .size) (c .before .before .before .before .before .before .check-head .result) (c .before .before .before .before .before .before .check-head .ensures) _ _ (c .before .before .before .before .next .given .1)
+check-end-requires c κs =
+    let start = c .before .before .before .before .before .before .before .before in
+    let a = start .args in
+    let check-head = c .before .before .before .before .before .before .check-head in
+    head-inside (a .text .now) (a .start) (a .first) (a .size) (check-head .result) (check-head .ensures) _ _
+    (c .before .before .before .before .next .given .1)
 
 enum-told-2 : tie.Need-enum-told-2
 enum-told-2 c = search needs
@@ -36,7 +43,12 @@ add-check-end-2 : tie.Need-add-check-end-2
 add-check-end-2 c = omega (arith, c .before .before .before .before .before .before .before .before .pre .2)
 
 check-end-requires-2 : tie.Need-check-end-requires-2
-check-end-requires-2 c κs = head-inside (c .before .before .before .before .before .before .before .before .args .text .now) (c .before .before .before .before .before .before .before .before .args .start) (c .before .before .before .before .before .before .before .before .args .first) (c .before .before .before .before .before .before .before .before .args .size) (c .before .before .before .before .before .before .check-head .result) (c .before .before .before .before .before .before .check-head .ensures) _ _ (c .before .before .before .before .next .given .1)
+check-end-requires-2 c κs =
+    let start = c .before .before .before .before .before .before .before .before in
+    let a = start .args in
+    let check-head = c .before .before .before .before .before .before .check-head in
+    head-inside (a .text .now) (a .start) (a .first) (a .size) (check-head .result) (check-head .ensures) _ _
+    (c .before .before .before .before .next .given .1)
 
 enum-told-3 : tie.Need-enum-told-3
 enum-told-3 c = search needs
@@ -48,22 +60,46 @@ add-check-scalar-2 : tie.Need-add-check-scalar-2
 add-check-scalar-2 c = omega (arith, c .before .before .before .before .before .before .before .before .pre .2)
 
 check-scalar-requires : tie.Need-check-scalar-requires
-check-scalar-requires c κs = head-inside (c .before .before .before .before .before .before .before .before .args .text .now) (c .before .before .before .before .before .before .before .before .args .start) (c .before .before .before .before .before .before .before .before .args .first) (c .before .before .before .before .before .before .before .before .args .size) (c .before .before .before .before .before .before .check-head .result) (c .before .before .before .before .before .before .check-head .ensures) _ _ (c .before .before .before .before .next .given .1)
+check-scalar-requires c κs =
+    let start = c .before .before .before .before .before .before .before .before in
+    let a = start .args in
+    let check-head = c .before .before .before .before .before .before .check-head in
+    head-inside (a .text .now) (a .start) (a .first) (a .size) (check-head .result) (check-head .ensures) _ _
+    (c .before .before .before .before .next .given .1)
 
 enum-told-4 : tie.Need-enum-told-4
 enum-told-4 c = search needs
 
 check-blob-requires : tie.Need-check-blob-requires
-check-blob-requires c κs = (head-inside (c .before .before .before .before .before .before .before .before .args .text .now) (c .before .before .before .before .before .before .before .before .args .start) (c .before .before .before .before .before .before .before .before .args .first) (c .before .before .before .before .before .before .before .before .args .size) (c .before .before .before .before .before .before .check-head .result) (c .before .before .before .before .before .before .check-head .ensures) _ _ (c .before .before .before .before .next .given .1), c .before .before .before .before .before .before .before .before .pre .2)
+check-blob-requires c κs =
+    let start = c .before .before .before .before .before .before .before .before in
+    let a = start .args in
+    let check-head = c .before .before .before .before .before .before .check-head in (
+      head-inside (a .text .now) (a .start) (a .first) (a .size) (check-head .result) (check-head .ensures) _ _
+          (c .before .before .before .before .next .given .1),
+      start .pre .2,
+    )
 
 returns : tie.Need-returns
-returns c = value-headless (c .before .before .before .before .before .args .text .now) (c .before .before .before .before .before .args .start) (c .before .before .before .before .before .args .first) (c .before .before .before .before .before .args .size) (c .before .before .before .check-head .result) (c .before .before .before .check-head .ensures) _ (c .before .place .given .1)
+returns c =
+    let start = c .before .before .before .before .before in
+    let a = start .args in
+    let check-head = c .before .before .before .check-head in
+    value-headless (a .text .now) (a .start) (a .first) (a .size) (check-head .result) (check-head .ensures) _
+    (c .before .place .given .1)
 
 returns-2 : tie.Need-returns-2
 returns-2 c = let null = kind-null _ _ (c .before .before .before .kind-of .ensures) (c .before .enum-told .given .1) in value-null (c .before .before .before .before .before .before .before .before .before .args .text .now) (c .before .before .before .before .before .before .before .before .before .args .start) (c .before .before .before .before .before .before .before .before .before .args .first) (c .before .before .before .before .before .before .before .before .before .args .size) (c .before .before .before .before .before .before .before .check-head .result) (c .before .before .before .before .before .before .before .check-head .ensures) _ _ (c .before .before .before .before .before .next .given .1) null (c .check-end .result) (c .check-end .ensures)
 
 returns-3 : tie.Need-returns-3
-returns-3 c = absurd (true≢false (sym (type-known (c .before .before .before .before .before .before .before .before .before .args .text .now) (c .before .before .before .before .before .before .before .before .before .args .start) (c .before .before .before .before .before .before .before .before .before .args .first) (c .before .before .before .before .before .before .before .before .before .args .size) (c .before .before .before .before .before .before .before .check-head .result) (c .before .before .before .before .before .before .before .check-head .ensures) _ _ (c .before .before .before .before .before .next .given .1)) ∙ kind-unknown _ _ (c .before .before .before .kind-of .ensures) (c .before .enum-told2 .given .1) .0))
+returns-3 c =
+    let start = c .before .before .before .before .before .before .before .before .before in
+    let a = start .args in
+    let check-head = c .before .before .before .before .before .before .before .check-head in
+    absurd (true≢false
+    (sym (type-known (a .text .now) (a .start) (a .first) (a .size) (check-head .result) (check-head .ensures) _ _
+    (c .before .before .before .before .before .next .given .1)) ∙ kind-unknown _ _
+    (c .before .before .before .kind-of .ensures) (c .before .enum-told2 .given .1) .0))
 
 returns-4 : tie.Need-returns-4
 returns-4 c = let scalar = kind-scalar _ _ (c .before .before .before .kind-of .ensures) (c .before .enum-told3 .given .1) in value-scalar (c .before .before .before .before .before .before .before .before .before .args .text .now) (c .before .before .before .before .before .before .before .before .before .args .start) (c .before .before .before .before .before .before .before .before .before .args .first) (c .before .before .before .before .before .before .before .before .before .args .size) (c .before .before .before .before .before .before .before .check-head .result) (c .before .before .before .before .before .before .before .check-head .ensures) _ _ (c .before .before .before .before .before .next .given .1) (scalar .0) (scalar .1) (c .check-scalar .result) (c .check-scalar .ensures)

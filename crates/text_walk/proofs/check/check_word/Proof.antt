@@ -1,64 +1,82 @@
--- `check::check_word` meets its contract. The invariant: what is still to come of the reading is the whole of it. Assumes nothing.
-use native.Mathlib.Omega.{arith}
-use borrow.Author.Tests.{not-true, not-false}
-use Rattle.text_walk.proofs.CheckLaws.{WordLeft, word-begins, word-done, word-early, word-off, word-on}
+-- `check::check_word` meets its contract. Assumes nothing.
+use Rattle.text_walk.proofs.DigitLaws.{word-boolean, word-digits}
 use borrow.Author.Needs.{needs}
 use Rattle.text_walk.proofs.check.check_word.Statement.{statement}
 use Rattle.text_walk.proofs.check.check_word.Tie as tie
 
-abbrev Inv-loop : tie.InvT-loop
-Inv-loop text start kind at₀ left₀ at left = WordLeft text start kind at left
+sub-if1 : tie.Need-sub-if1
+sub-if1 c = search needs
 
-abbrev μ-loop : tie.MeasureT-loop
-μ-loop text start kind at₀ left₀ at left = left
+place-word-requires : tie.Need-place-word-requires
+place-word-requires c κs = search needs
 
-loop-holds : tie.Need-loop-holds Inv-loop μ-loop
-loop-holds c = word-begins _ _ _ (c .before .pre)
+returns : tie.Need-returns
+returns c = search needs
 
-returns : tie.Need-returns Inv-loop μ-loop
-returns c = word-early _ _ _ _ _ (c .before .before .loop .inv) (c .before .loop-test .taken) (c .if1 .taken)
+add-digits : tie.Need-add-digits
+add-digits c = search needs
 
-shared-slice-read-small-value : tie.Need-shared-slice-read-small-value Inv-loop μ-loop
-shared-slice-read-small-value c = omega arith
+sub-digits : tie.Need-sub-digits
+sub-digits c = search needs
 
-small-value-requires : tie.Need-small-value-requires Inv-loop μ-loop
-small-value-requires c κs = search needs
+part-digits-start : tie.Need-part-digits-start
+part-digits-start c = search needs
 
-digit-fits-requires : tie.Need-digit-fits-requires Inv-loop μ-loop
-digit-fits-requires c κs = omega arith
+part-digits-end : tie.Need-part-digits-end
+part-digits-end c = search needs
 
-returns-2 : tie.Need-returns-2 Inv-loop μ-loop
-returns-2 c = word-off _ _ _ _ _ (c .before .before .before .before .before .before .loop .inv) (c .before .before .before .before .before .loop-test .taken) (c .before .before .before .before .if1 .left) _ (c .before .before .small-value .ensures) _ (c .before .digit-fits .ensures) (not-true _ (c .if2 .taken))
+are-boolean-requires : tie.Need-are-boolean-requires
+are-boolean-requires c κs = search needs
 
-add-at : tie.Need-add-at Inv-loop μ-loop
-add-at c = omega arith
+add-t11 : tie.Need-add-t11
+add-t11 c = search needs
 
-sub-left : tie.Need-sub-left Inv-loop μ-loop
-sub-left c = omega arith
+returns-2 : tie.Need-returns-2
+returns-2 c =
+    let a = c .before .before .before .before .before .before .args in
+    word-boolean (a .text .now) (a .start) (a .kind) (search needs) (c .before .before .if2 .taken) (c .before .are-boolean .ensures (c .if3 .taken))
 
-loop-less : tie.Need-loop-less Inv-loop μ-loop
-loop-less c = omega arith
+place-word-requires-2 : tie.Need-place-word-requires-2
+place-word-requires-2 c κs = search needs
 
-loop-again : tie.Need-loop-again Inv-loop μ-loop
-loop-again c = word-on _ _ _ _ _ (c .before .before .before .before .before .before .loop .inv) (c .before .before .before .before .before .loop-test .taken) (c .before .before .before .before .if1 .left) _ (c .before .before .small-value .ensures) _ (c .before .digit-fits .ensures) (not-false _ (c .if2 .left))
+returns-3 : tie.Need-returns-3
+returns-3 c = search needs
 
-returns-3 : tie.Need-returns-3 Inv-loop μ-loop
-returns-3 c = word-done _ _ _ _ _ (c .before .loop .inv) (c .loop-test .left)
+are-digits-requires : tie.Need-are-digits-requires
+are-digits-requires c κs = search needs
+
+add-t13 : tie.Need-add-t13
+add-t13 c = search needs
+
+returns-4 : tie.Need-returns-4
+returns-4 c =
+    let a = c .before .before .before .before .before .before .args in
+    word-digits (a .text .now) (a .start) (a .kind) (search needs) (c .before .before .if2 .left) (c .before .are-digits .ensures (c .if4 .taken))
+
+place-word-requires-3 : tie.Need-place-word-requires-3
+place-word-requires-3 c κs = search needs
+
+returns-5 : tie.Need-returns-5
+returns-5 c = search needs
 
 pub check-word-spec : {M : Type 1} → statement M
 check-word-spec =
     tie.close
     (tie.spec
-    Inv-loop
-    μ-loop
-    loop-holds
+    sub-if1
+    place-word-requires
     returns
-    shared-slice-read-small-value
-    small-value-requires
-    digit-fits-requires
+    add-digits
+    sub-digits
+    part-digits-start
+    part-digits-end
+    are-boolean-requires
+    add-t11
     returns-2
-    add-at
-    sub-left
-    loop-less
-    loop-again
-    returns-3)
+    place-word-requires-2
+    returns-3
+    are-digits-requires
+    add-t13
+    returns-4
+    place-word-requires-3
+    returns-5)

@@ -18,7 +18,14 @@ returns-3 : tie.Need-returns-3
 returns-3 c = rw (le-ltb 15 _ (c .before .before .if1 .left), eq-eqb _ 6 (c .before .if2 .left), eq-eqb (c .before .before .before .args .left - 1) 0 (omega (arith, c .if3 .taken)))
 
 returns-4 : tie.Need-returns-4
-returns-4 c = rw (le-ltb 15 _ (c .before .before .if1 .left), eq-eqb _ 6 (c .before .if2 .left), ne-eqb (c .before .before .before .args .left - 1) 0 (λ e. omega (arith, c .if3 .left, c .before .before .before .pre)))
+returns-4 c =
+    let start = c .before .before .before in
+    rw (
+      le-ltb 15 _ (c .before .before .if1 .left),
+      eq-eqb _ 6 (c .before .if2 .left),
+      ne-eqb (start .args .left - 1) 0
+          (λ e. omega (arith, c .if3 .left, start .pre)),
+    )
 
 pub digit-fits-spec : {M : Type 1} → statement M
 digit-fits-spec = tie.close (tie.spec returns returns-2 returns-3 returns-4)

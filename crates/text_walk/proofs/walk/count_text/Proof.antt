@@ -17,13 +17,20 @@ loop-holds : tie.Need-loop-holds Inv-loop μ-loop
 loop-holds c = text-begins _
 
 check-line-requires : tie.Need-check-line-requires Inv-loop μ-loop
-check-line-requires c κs = (c .loop-test .taken, c .before .loop .inv .6, c .before .loop .inv .5)
+check-line-requires c κs =
+    let turn = c .before .loop in
+    (c .loop-test .taken, turn .inv .6, turn .inv .5)
 
 enum-known-refusal : tie.Need-enum-known-refusal Inv-loop μ-loop
 enum-known-refusal c = search needs
 
 returns : tie.Need-returns Inv-loop μ-loop
-returns c = text-stopped (c .before .before .before .before .before .before .before .args .text .now) (c .before .before .before .before .before .loop .at) (c .before .before .before .before .before .loop .rows) (c .before .before .before .before .before .loop .values) (c .before .before .before .before .before .loop .bytes) (c .before .before .before .before .before .loop .size) (c .before .before .before .before .before .loop .inv) (c .before .before .before .check-line .result) (c .before .before .before .check-line .ensures) _ (c .before .refusal .given .1)
+returns c =
+    let turn = c .before .before .before .before .before .loop in
+    let check-line = c .before .before .before .check-line in
+    text-stopped (c .before .before .before .before .before .before .before .args .text .now) (turn .at) (turn .rows)
+    (turn .values) (turn .bytes) (turn .size) (turn .inv) (check-line .result) (check-line .ensures) _
+    (c .before .refusal .given .1)
 
 enum-known-next : tie.Need-enum-known-next Inv-loop μ-loop
 enum-known-next c = search needs
@@ -32,16 +39,54 @@ add-rows : tie.Need-add-rows Inv-loop μ-loop
 add-rows c = omega (arith, c .before .before .before .before .before .loop .inv .6)
 
 add-values : tie.Need-add-values Inv-loop μ-loop
-add-values c = omega (arith, sums-fit (c .before .before .before .before .before .before .before .args .text .now) (c .before .before .before .before .before .loop .at) (c .before .before .before .before .before .loop .rows) (c .before .before .before .before .before .loop .values) (c .before .before .before .before .before .loop .bytes) (c .before .before .before .before .before .loop .size) (c .before .before .before .before .before .loop .inv) (c .before .before .before .check-line .result) (c .before .before .before .check-line .ensures) (c .before .next .given .0 .0) (c .before .next .given .0 .1 .0) (c .before .next .given .0 .1 .1 .0) (c .before .next .given .0 .1 .1 .1 .0) (c .before .next .given .1) .0)
+add-values c =
+    let turn = c .before .before .before .before .before .loop in
+    let check-line = c .before .before .before .check-line in
+    let got = c .before .next in
+    omega (
+      arith,
+      sums-fit (c .before .before .before .before .before .before .before .args .text .now) (turn .at)
+          (turn .rows) (turn .values) (turn .bytes) (turn .size) (turn .inv) (check-line .result) (check-line .ensures)
+          (got .given .0 .0) (got .given .0 .1 .0) (got .given .0 .1 .1 .0) (got .given .0 .1 .1 .1 .0) (got .given .1) .0,
+    )
 
 add-bytes : tie.Need-add-bytes Inv-loop μ-loop
-add-bytes c = omega (arith, sums-fit (c .before .before .before .before .before .before .before .args .text .now) (c .before .before .before .before .before .loop .at) (c .before .before .before .before .before .loop .rows) (c .before .before .before .before .before .loop .values) (c .before .before .before .before .before .loop .bytes) (c .before .before .before .before .before .loop .size) (c .before .before .before .before .before .loop .inv) (c .before .before .before .check-line .result) (c .before .before .before .check-line .ensures) (c .before .next .given .0 .0) (c .before .next .given .0 .1 .0) (c .before .next .given .0 .1 .1 .0) (c .before .next .given .0 .1 .1 .1 .0) (c .before .next .given .1) .1)
+add-bytes c =
+    let turn = c .before .before .before .before .before .loop in
+    let check-line = c .before .before .before .check-line in
+    let got = c .before .next in
+    omega (
+      arith,
+      sums-fit (c .before .before .before .before .before .before .before .args .text .now) (turn .at)
+          (turn .rows) (turn .values) (turn .bytes) (turn .size) (turn .inv) (check-line .result) (check-line .ensures)
+          (got .given .0 .0) (got .given .0 .1 .0) (got .given .0 .1 .1 .0) (got .given .0 .1 .1 .1 .0) (got .given .1) .1,
+    )
 
 loop-less : tie.Need-loop-less Inv-loop μ-loop
-loop-less c = omega (arith, line-lies (c .before .before .before .before .before .before .before .args .text .now) (c .before .before .before .before .before .loop .at) (c .before .before .before .before .before .loop .rows) (c .before .before .before .before .before .loop .values) (c .before .before .before .before .before .loop .bytes) (c .before .before .before .before .before .loop .size) (c .before .before .before .before .before .loop .inv) (c .before .before .before .check-line .result) (c .before .before .before .check-line .ensures) (c .before .next .given .0 .0) (c .before .next .given .0 .1 .0) (c .before .next .given .0 .1 .1 .0) (c .before .next .given .0 .1 .1 .1 .0) (c .before .next .given .1) .0, line-lies (c .before .before .before .before .before .before .before .args .text .now) (c .before .before .before .before .before .loop .at) (c .before .before .before .before .before .loop .rows) (c .before .before .before .before .before .loop .values) (c .before .before .before .before .before .loop .bytes) (c .before .before .before .before .before .loop .size) (c .before .before .before .before .before .loop .inv) (c .before .before .before .check-line .result) (c .before .before .before .check-line .ensures) (c .before .next .given .0 .0) (c .before .next .given .0 .1 .0) (c .before .next .given .0 .1 .1 .0) (c .before .next .given .0 .1 .1 .1 .0) (c .before .next .given .1) .1)
+loop-less c =
+    let start = c .before .before .before .before .before .before .before in
+    let a = start .args in
+    let turn = c .before .before .before .before .before .loop in
+    let check-line = c .before .before .before .check-line in
+    let got = c .before .next in
+    omega (
+      arith,
+      line-lies (a .text .now) (turn .at) (turn .rows) (turn .values) (turn .bytes) (turn .size) (turn .inv)
+          (check-line .result) (check-line .ensures) (got .given .0 .0) (got .given .0 .1 .0) (got .given .0 .1 .1 .0)
+          (got .given .0 .1 .1 .1 .0) (got .given .1) .0,
+      line-lies (a .text .now) (turn .at) (turn .rows) (turn .values)
+          (turn .bytes) (turn .size) (turn .inv) (check-line .result) (check-line .ensures) (got .given .0 .0)
+          (got .given .0 .1 .0) (got .given .0 .1 .1 .0) (got .given .0 .1 .1 .1 .0) (got .given .1) .1,
+    )
 
 loop-again : tie.Need-loop-again Inv-loop μ-loop
-loop-again c = text-goes (c .before .before .before .before .before .before .before .args .text .now) (c .before .before .before .before .before .loop .at) (c .before .before .before .before .before .loop .rows) (c .before .before .before .before .before .loop .values) (c .before .before .before .before .before .loop .bytes) (c .before .before .before .before .before .loop .size) (c .before .before .before .before .before .loop .inv) (c .before .before .before .check-line .result) (c .before .before .before .check-line .ensures) (c .before .next .given .0 .0) (c .before .next .given .0 .1 .0) (c .before .next .given .0 .1 .1 .0) (c .before .next .given .0 .1 .1 .1 .0) (c .before .next .given .1)
+loop-again c =
+    let turn = c .before .before .before .before .before .loop in
+    let check-line = c .before .before .before .check-line in
+    let got = c .before .next in
+    text-goes (c .before .before .before .before .before .before .before .args .text .now) (turn .at) (turn .rows)
+    (turn .values) (turn .bytes) (turn .size) (turn .inv) (check-line .result) (check-line .ensures) (got .given .0 .0)
+    (got .given .0 .1 .0) (got .given .0 .1 .1 .0) (got .given .0 .1 .1 .1 .0) (got .given .1)
 
 returns-2 : tie.Need-returns-2 Inv-loop μ-loop
 returns-2 c = text-done _ _ _ _ _ _ (c .before .loop .inv) (c .loop-test .left)
