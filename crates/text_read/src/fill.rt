@@ -1,4 +1,5 @@
-// The second walk, over a text that the first has found good and for which there is room: the tables and the area are filled.
+// The second walk, over a text that the first has found good and for which there is room: the tables and the area are
+// filled.
 ghost use mathlib.Core.Path.{_≡_};
 ghost use Prim.Native.Nat.{_≤_};
 ghost use Rattle.text_form.specs.Walk.{smallValue};
@@ -217,7 +218,8 @@ fn fill_value(
     used: usize,
 ) -> Value
     requires { ⌜ HasValue (now text) at first (now values) k (now area) used ⌝ }
-    ensures { λ r. ⌜ FillsValue (now (text .entry)) at first k used (now (values .entry)) (now (area .entry)) (now (values .exit)) (now (area .exit)) r ⌝ }
+    ensures { λ r. ⌜ FillsValue (now (text .entry)) at first k used (now (values .entry)) (now (area .entry))
+        (now (values .exit)) (now (area .exit)) r ⌝ }
 {
     let head = read_head(text, at, first);
     let payload = read_payload(text, head.next, head.kind, area, used);
@@ -244,7 +246,8 @@ fn fill_values(
     before: usize,
 ) -> Line
     requires { ⌜ HasValues (now text) start (now values) first (now area) before ⌝ }
-    ensures { λ r. ⌜ FillsLine (now (text .entry)) start first before (now (values .entry)) (now (area .entry)) (now (values .exit)) (now (area .exit)) r ⌝ }
+    ensures { λ r. ⌜ FillsLine (now (text .entry)) start first before (now (values .entry)) (now (area .entry))
+        (now (values .exit)) (now (area .exit)) r ⌝ }
 {
     let mut at = start;
     let mut k = first;
@@ -291,7 +294,9 @@ fn fill_line(
     used: usize,
 ) -> Line
     requires { ⌜ HasLine (now text) at (now values) k (now area) used ⌝ }
-    ensures { λ r. ⌜ FillsLine (now (text .entry)) at k used (now (values .entry)) (now (area .entry)) (now (values .exit)) (now (area .exit)) r ⌝ }
+    ensures { λ r.
+        ⌜ FillsLine (now (text .entry)) at k used (now (values .entry)) (now (area .entry)) (now (values .exit))
+        (now (area .exit)) r ⌝ }
 {
     let byte = text[at];
     if byte == b'\n' {
@@ -316,7 +321,8 @@ fn fill_line(
 // Both tables and the area, from their fronts.
 pub(crate) fn fill_text(text: &[u8], rows: &mut [u64], values: &mut [u64], area: &mut [u8])
     requires { ⌜ HasText (now text) (now rows) (now values) (now area) ⌝ }
-    ensures { λ r. ⌜ FillsText (now (text .entry)) (now (rows .entry)) (now (values .entry)) (now (area .entry)) (now (rows .exit)) (now (values .exit)) (now (area .exit)) ⌝ }
+    ensures { λ r. ⌜ FillsText (now (text .entry)) (now (rows .entry)) (now (values .entry)) (now (area .entry))
+        (now (rows .exit)) (now (values .exit)) (now (area .exit)) ⌝ }
 {
     let mut at = 0;
     let mut row = 0;
