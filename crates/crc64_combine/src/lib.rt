@@ -23,8 +23,8 @@ struct Turn {
     power: u64,
 }
 
-// One turn: the register times the power where n is odd, and the power squared. Both products, modulo the polynomial, are
-// summed in one walk over the power's steps, which is where the time goes.
+// One turn: the register times the power where n is odd, and the power squared. Both products, modulo the polynomial,
+// are summed in one walk over the power's steps, which is where the time goes.
 fn one_turn(n: u64, power: u64, register: u64) -> Turn
     ensures { λ r. ⌜ (r .register ≡ whereSet (n % 2) power register) × (r .power ≡ product 64 power power) ⌝ }
 {

@@ -1,12 +1,12 @@
-// The checksum's register, 32 bytes on, with no table laid out, as crc64_near has it for eight: for four registers side by
-// side, each of which takes every fourth word. What a step is stands in crc64's specs/Polynomial.antt.
+// The checksum's register, 32 bytes on, with no table laid out, as crc64_near has it for eight: for four registers side
+// by side, each of which takes every fourth word. What a step is stands in crc64's specs/Polynomial.antt.
 ghost use Rattle.crc64_far.specs.Statement.{FarIs};
 ghost use Rattle.crc64.specs.Table.{entry};
 ghost use mathlib.Core.Path.{_≡_};
 ghost use lib.Bits.{bitXor};
 
-// Table k: the byte b and 24 + k zero bytes folded into an empty register, byte-swapped. Its arm b xor 128 has entry b, and
-// it is asked so: the compiled table begins with arm 128, and entry b then stands at place b.
+// Table k: the byte b and 24 + k zero bytes folded into an empty register, byte-swapped. Its arm b xor 128 has entry b,
+// and it is asked so: the compiled table begins with arm 128, and entry b then stands at place b.
 
 fn table_0(asked: u8) -> u64
     ensures { λ r. ⌜ r ≡ entry 200 (bitXor asked 128) ⌝ }

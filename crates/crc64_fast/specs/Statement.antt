@@ -16,8 +16,8 @@ FoldHeldIs register bytes r = r ≡ swapped 8 (fold (swapped 8 register) bytes)
 abbrev pub FoldFastIs : ℕ → List ℕ → ℕ → Type 0
 FoldFastIs register bytes r = FoldIs register bytes r
 
--- r is the register after the bytes, whether or not they have the room; the output that held `before` holds them over its front
--- where they have it, else what it held
+-- r is the register after the bytes, whether or not they have the room; the output that held `before` holds them over
+-- its front where they have it, else what it held
 pub record Copies (register : ℕ) (bytes before : List ℕ) (r : ℕ) (after : List ℕ) : Type 0 where
   pub folded : FoldHeldIs register bytes r
   pub copied : Leaves bytes before after

@@ -31,8 +31,8 @@ fn write_low(word: u64, count: usize, out: &mut [u8])
     }
 }
 
-// The first bytes as a word, of which so many count; over the front of `out`, but where that is too short for all. Where
-// they are copied, no byte is loaded that belongs to the next word.
+// The first bytes as a word, of which so many count; over the front of `out`, but where that is too short for all.
+// Where they are copied, no byte is loaded that belongs to the next word.
 fn first_word(bytes: &[u8], count: usize, short: bool, out: &mut [u8]) -> u64
     requires { ⌜ (count ≤ 8) × (count ≤ length (now bytes)) × (short ≡ false → count ≤ length (now out)) ⌝ }
     ensures { λ r. ⌜ (r ≡ pick short (word 8 (now (bytes .entry)) 0) (word 8 (take count (now (bytes .entry))) 0))

@@ -1,5 +1,5 @@
--- Registers that wait for their place in a string: the first is xored in at its start, each next one eight bytes later. Private
--- contracts cite it: nobody has to believe it. Assumes nothing.
+-- Registers that wait for their place in a string: the first is xored in at its start, each next one eight bytes later.
+-- Private contracts cite it: nobody has to believe it. Assumes nothing.
 use Prim.Native.Nat.{ℕ}
 use mathlib.Core.List.{List, [], _∷_, map}
 use lib.Bits.{bitXor}

@@ -28,9 +28,11 @@ type Scratch = [u8; 32];
 fn block(lanes: &mut [u64; 4], bytes: &[u8], i: usize, at: usize, out: &mut [u8])
     requires { ⌜ (length (now lanes) ≡ 4) × (i + 56 ≤ length (now bytes)) × (at + 32 ≤ length (now out)) ⌝ }
     ensures { λ _. ⌜ (length (now (lanes .exit)) ≡ 4)
-        × (waits (now (lanes .exit)) (drop (i + 32) (now (bytes .entry))) ≡ waits (now (lanes .entry)) (drop i (now (bytes .entry))))
+        × (waits (now (lanes .exit)) (drop (i + 32) (now (bytes .entry)))
+        ≡ waits (now (lanes .entry)) (drop i (now (bytes .entry))))
         × (length (now (out .exit)) ≡ length (now (out .entry)))
-        × (at ≡ i → (before : List ℕ) → Filling (now (bytes .entry)) (drop i (now (bytes .entry))) before (now (out .entry)) i
+        × (at ≡ i → (before : List ℕ)
+        → Filling (now (bytes .entry)) (drop i (now (bytes .entry))) before (now (out .entry)) i
         → Filling (now (bytes .entry)) (drop (i + 32) (now (bytes .entry))) before (now (out .exit)) (i + 32)) ⌝ }
 {
     let mut l = 0;
@@ -47,7 +49,8 @@ fn block(lanes: &mut [u64; 4], bytes: &[u8], i: usize, at: usize, out: &mut [u8]
 // The end: each register enters at its word.
 fn joined(a: u64, b: u64, c: u64, d: u64, bytes: &[u8], i: usize) -> u64
     requires { ⌜ i + 24 ≤ length (now bytes) ⌝ }
-    ensures { λ r. ⌜ r ≡ swapped 8 (entering 0 (swapped 8 a ∷ swapped 8 b ∷ swapped 8 c ∷ swapped 8 d ∷ []) (drop i (now (bytes .entry)))) ⌝ }
+    ensures { λ r. ⌜ r ≡ swapped 8
+        (entering 0 (swapped 8 a ∷ swapped 8 b ∷ swapped 8 c ∷ swapped 8 d ∷ []) (drop i (now (bytes .entry)))) ⌝ }
 {
     let first = fold_held(a, &bytes[i..i + 8]);
     let second = fold_held(first ^ b, &bytes[i + 8..i + 16]);
@@ -78,7 +81,8 @@ fn place(i: usize, copies: bool) -> usize
 // The register, held byte-swapped, after the bytes, and the bytes over the front of `out` where they are copied; else
 // `out` is where the words of a block are put.
 fn walk(register: u64, bytes: &[u8], copies: bool, out: &mut [u8]) -> u64
-    requires { ⌜ (32 ≤ length (now bytes)) × (32 ≤ length (now out)) × (copies ≡ true → length (now bytes) ≤ length (now out)) ⌝ }
+    requires { ⌜ (32 ≤ length (now bytes)) × (32 ≤ length (now out))
+        × (copies ≡ true → length (now bytes) ≤ length (now out)) ⌝ }
     ensures { λ r. ⌜ FoldHeldIs register (now (bytes .entry)) r
         × (copies ≡ true → now (out .exit) ≡ over (now (bytes .entry)) (now (out .entry))) ⌝ }
 {

@@ -29,7 +29,9 @@ type Tail = [u8; SPAN];
 // The next `count` bytes leave.
 fn leave(window: &mut Window, bytes: &[u8], at: usize, count: usize)
     requires { ⌜ (length (now window) ≡ windowSize) × (count ≤ blockSize) × (at + count ≤ length (now bytes)) ⌝ }
-    ensures { λ _. ⌜ (length (now (window .exit)) ≡ windowSize) × (take (span + count) (now (window .exit)) ≡ filled count (take span (now (window .entry))) (drop at (now (bytes .entry)))) ⌝ }
+    ensures { λ _. ⌜ (length (now (window .exit)) ≡ windowSize)
+        × (take (span + count) (now (window .exit))
+        ≡ filled count (take span (now (window .entry))) (drop at (now (bytes .entry)))) ⌝ }
 {
     let mut k = 0;
     while k < count {
@@ -46,7 +48,8 @@ fn leave(window: &mut Window, bytes: &[u8], at: usize, count: usize)
 // The bytes that left last come to the front.
 fn shift(window: &mut Window, count: usize)
     requires { ⌜ (length (now window) ≡ windowSize) × (count ≤ blockSize) ⌝ }
-    ensures { λ _. ⌜ (length (now (window .exit)) ≡ windowSize) × (take span (now (window .exit)) ≡ take span (drop count (now (window .entry)))) ⌝ }
+    ensures { λ _. ⌜ (length (now (window .exit)) ≡ windowSize)
+        × (take span (now (window .exit)) ≡ take span (drop count (now (window .entry)))) ⌝ }
 {
     let mut k = 0;
     while k < SPAN {
@@ -58,7 +61,8 @@ fn shift(window: &mut Window, count: usize)
 // What is owed from one place on is paid.
 fn pay(window: &Window, tail: &mut Tail, place: usize)
     requires { ⌜ (length (now window) ≡ windowSize) × (length (now tail) ≡ span) × (place ≤ span) ⌝ }
-    ensures { λ _. ⌜ (length (now (tail .exit)) ≡ span) × (now (tail .exit) ≡ xorFront (drop place (take span (now (window .entry)))) (now (tail .entry))) ⌝ }
+    ensures { λ _. ⌜ (length (now (tail .exit)) ≡ span)
+        × (now (tail .exit) ≡ xorFront (drop place (take span (now (window .entry)))) (now (tail .entry))) ⌝ }
 {
     let mut k = 0;
     while k < SPAN - place {
@@ -78,7 +82,8 @@ fn block(left: usize) -> usize
 fn leave_all(window: &mut Window, bytes: &[u8], count: usize)
     requires { ⌜ (length (now window) ≡ windowSize) × (count + span ≤ length (now bytes)) ⌝ }
     ensures { λ _. ⌜ (length (now (window .exit)) ≡ windowSize)
-        × (fold 0 (owed places (take span (now (window .exit))) (drop count (now (bytes .entry)))) ≡ fold 0 (owed places (take span (now (window .entry))) (now (bytes .entry)))) ⌝ }
+        × (fold 0 (owed places (take span (now (window .exit))) (drop count (now (bytes .entry))))
+        ≡ fold 0 (owed places (take span (now (window .entry))) (now (bytes .entry)))) ⌝ }
 {
     let mut i = 0;
     while i < count {
@@ -92,7 +97,8 @@ fn leave_all(window: &mut Window, bytes: &[u8], count: usize)
 // The last bytes, as many as the tail has.
 fn last(bytes: &[u8], tail: &mut Tail)
     requires { ⌜ (length (now tail) ≡ span) × (span ≤ length (now bytes)) ⌝ }
-    ensures { λ _. ⌜ (length (now (tail .exit)) ≡ span) × (now (tail .exit) ≡ drop (length (now (bytes .entry)) - span) (now (bytes .entry))) ⌝ }
+    ensures { λ _. ⌜ (length (now (tail .exit)) ≡ span)
+        × (now (tail .exit) ≡ drop (length (now (bytes .entry)) - span) (now (bytes .entry))) ⌝ }
 {
     let at = bytes.len() - SPAN;
     let mut k = 0;
@@ -105,7 +111,8 @@ fn last(bytes: &[u8], tail: &mut Tail)
 // All that is owed is paid.
 fn pay_all(window: &Window, tail: &mut Tail)
     requires { ⌜ (length (now window) ≡ windowSize) × (length (now tail) ≡ span) ⌝ }
-    ensures { λ _. ⌜ (length (now (tail .exit)) ≡ span) × (now (tail .exit) ≡ owed places (take span (now (window .entry))) (now (tail .entry))) ⌝ }
+    ensures { λ _. ⌜ (length (now (tail .exit)) ≡ span)
+        × (now (tail .exit) ≡ owed places (take span (now (window .entry))) (now (tail .entry))) ⌝ }
 {
     pay(window, tail, 1556);
     pay(window, tail, 1310);

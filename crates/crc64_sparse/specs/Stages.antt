@@ -1,5 +1,5 @@
--- A sparse multiple of the polynomial: x^1856 = x^1556 + x^1310 + x^1180 + x^753 + x^256 + x^236 + 1 holds in bytes too. So a byte that
--- leaves in front is paid by xoring it in again at seven later places. Assumes nothing.
+-- A sparse multiple of the polynomial: x^1856 = x^1556 + x^1310 + x^1180 + x^753 + x^256 + x^236 + 1 holds in bytes
+-- too. So a byte that leaves in front is paid by xoring it in again at seven later places. Assumes nothing.
 use Prim.Native.Nat.{ℕ, zero, suc, _*_}
 use mathlib.Core.List.{List, [], _∷_, _++_}
 use lib.Bits.{bitXor}

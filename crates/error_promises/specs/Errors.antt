@@ -30,7 +30,8 @@ abbrev pub ErrorAcceptsExactly : Type 0
 ErrorAcceptsExactly =
     (s errors attributes errors′ attributes′ : List ℕ) (r : Decoded) → Decodes s errors attributes r errors′ attributes′
     → (WellFormed s → Roomy s errors attributes → r ≡ Read (errorCount (tree s)) (attributeCount (tree s)))
-    × ((n m : ℕ) → r ≡ Read n m → WellFormed s × Roomy s errors attributes × (n ≡ errorCount (tree s)) × (m ≡ attributeCount (tree s)))
+    × ((n m : ℕ) → r ≡ Read n m → WellFormed s × Roomy s errors attributes × (n ≡ errorCount (tree s))
+    × (m ≡ attributeCount (tree s)))
 
 -- `encode_error` writes exactly where no rule of 18 is broken and the output has the room, and tells how many bytes
 abbrev pub ErrorWritesExactly : Type 0
@@ -67,4 +68,5 @@ abbrev pub UnknownAddsNothing : Type 0
 UnknownAddsNothing =
     (s fs gs : List ℕ) (at : ℕ) → errorFields < numberAt s at
     → ((deeper : ℕ → Parts → Parts) → partsWith deeper s (fs ++ (at ∷ gs)) ≡ partsWith deeper s (fs ++ gs))
-    × ((f : ℕ → ℕ) (number d : ℕ) → number ≤ errorFields → latest f number s (fs ++ (at ∷ gs)) d ≡ latest f number s (fs ++ gs) d)
+    × ((f : ℕ → ℕ) (number d : ℕ) → number ≤ errorFields
+    → latest f number s (fs ++ (at ∷ gs)) d ≡ latest f number s (fs ++ gs) d)

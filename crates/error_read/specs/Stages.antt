@@ -32,7 +32,8 @@ pub record Scanned (s fs : List ℕ) (r : Own) : Type 0 where
   pub place2 : r .place2 ≡ placeOf 2 s fs
 
 -- What a part of the tree adds to the two tables: its errors behind those before it, and its attributes
-pub record Fills (p : Parts) (depth index next k : ℕ) (errors attributes errors′ attributes′ : List ℕ) (r : Filled) : Type 0 where
+pub record Fills (p : Parts) (depth index next k : ℕ) (errors attributes errors′ attributes′ : List ℕ) (r : Filled)
+    : Type 0 where
   pub errors-are : errors′ ≡ sets errors (4 * next) (errorWords depth p)
   pub attributes-are : attributes′ ≡ sets attributes k (attributeWords index next p)
   pub next-is : r .next ≡ next + errorCount p

@@ -23,7 +23,8 @@ pub enum Decoded {
 
 // Reads the TError that the whole input is; a refusal leaves both tables as they were.
 pub fn decode_error(input: &[u8], errors: &mut [u64], attributes: &mut [u64]) -> Decoded
-    ensures { λ r. ⌜ Decodes (now (input .entry)) (now (errors .entry)) (now (attributes .entry)) r (now (errors .exit)) (now (attributes .exit)) ⌝ }
+    ensures { λ r. ⌜ Decodes (now (input .entry)) (now (errors .entry)) (now (attributes .entry)) r (now (errors .exit))
+        (now (attributes .exit)) ⌝ }
 {
     match count_error(input) {
         Walked::Stopped(refusal) => Decoded::Refused(refusal),

@@ -86,8 +86,11 @@ fn fill_entry(
     attributes: &mut [u64],
     k: usize,
 ) -> usize
-    requires { ⌜ (Lies (now input) at number content stop) × (k + length (entryWords index (now input) at) ≤ length (now attributes)) ⌝ }
-    ensures { λ r. ⌜ Stored (entryWords index (now (input .entry)) at) (now (attributes .entry)) k (now (attributes .exit)) r ⌝ }
+    requires { ⌜ (Lies (now input) at number content stop)
+        × (k + length (entryWords index (now input) at) ≤ length (now attributes)) ⌝ }
+    ensures { λ r.
+        ⌜ Stored (entryWords index (now (input .entry)) at) (now (attributes .entry)) k (now (attributes .exit)) r
+        ⌝ }
 {
     if number != 1 {
         return k;
@@ -110,8 +113,12 @@ fn fill_dictionary(
     attributes: &mut [u64],
     first: usize,
 ) -> usize
-    requires { ⌜ (start ≤ end) × (end ≤ length (now input)) × (first + length (dictionaryWords index (now input) (fields dictionaryFields (now input) start end)) ≤ length (now attributes)) ⌝ }
-    ensures { λ r. ⌜ Stored (dictionaryWords index (now (input .entry)) (fields dictionaryFields (now (input .entry)) start end)) (now (attributes .entry)) first (now (attributes .exit)) r ⌝ }
+    requires { ⌜ (start ≤ end) × (end ≤ length (now input))
+        × (first + length (dictionaryWords index (now input) (fields dictionaryFields (now input) start end))
+        ≤ length (now attributes)) ⌝ }
+    ensures { λ r. ⌜ Stored
+        (dictionaryWords index (now (input .entry)) (fields dictionaryFields (now (input .entry)) start end))
+        (now (attributes .entry)) first (now (attributes .exit)) r ⌝ }
 {
     let mut at = start;
     let mut k = first;
@@ -156,8 +163,11 @@ fn fill_inside(
     k: usize,
     attributes: &mut [u64],
 ) -> Filled
-    requires { ⌜ (Lies (now input) at number content stop) × (depth + left ≤ 17) × Room (fieldParts (innerPart left (now input)) (now input) at none) next k (now errors) (now attributes) ⌝ }
-    ensures { λ r. ⌜ Fills (fieldParts (innerPart left (now (input .entry))) (now (input .entry)) at none) depth index next k (now (errors .entry)) (now (attributes .entry)) (now (errors .exit)) (now (attributes .exit)) r ⌝ }
+    requires { ⌜ (Lies (now input) at number content stop) × (depth + left ≤ 17)
+        × Room (fieldParts (innerPart left (now input)) (now input) at none) next k (now errors) (now attributes) ⌝ }
+    ensures { λ r.
+        ⌜ Fills (fieldParts (innerPart left (now (input .entry))) (now (input .entry)) at none) depth index next k
+        (now (errors .entry)) (now (attributes .entry)) (now (errors .exit)) (now (attributes .exit)) r ⌝ }
 {
     if number == 3 {
         let row = fill_dictionary(input, content, stop, index, attributes, k);
@@ -205,8 +215,12 @@ fn fill_held(
     begin: usize,
     attributes: &mut [u64],
 ) -> Filled
-    requires { ⌜ (start ≤ end) × (end ≤ length (now input)) × (depth + left ≤ 17) × Room (parts left (now input) (fields errorFields (now input) start end)) first begin (now errors) (now attributes) ⌝ }
-    ensures { λ r. ⌜ Fills (parts left (now (input .entry)) (fields errorFields (now (input .entry)) start end)) depth index first begin (now (errors .entry)) (now (attributes .entry)) (now (errors .exit)) (now (attributes .exit)) r ⌝ }
+    requires { ⌜ (start ≤ end) × (end ≤ length (now input)) × (depth + left ≤ 17)
+        × Room (parts left (now input) (fields errorFields (now input) start end)) first begin (now errors)
+        (now attributes) ⌝ }
+    ensures { λ r.
+        ⌜ Fills (parts left (now (input .entry)) (fields errorFields (now (input .entry)) start end)) depth index
+        first begin (now (errors .entry)) (now (attributes .entry)) (now (errors .exit)) (now (attributes .exit)) r ⌝ }
 {
     let mut at = start;
     let mut next = first;
@@ -243,7 +257,8 @@ fn fill_held(
 // The whole tree.
 pub(crate) fn fill_error(input: &[u8], errors: &mut [u64], attributes: &mut [u64])
     requires { ⌜ Room (tree (now input)) 0 0 (now errors) (now attributes) ⌝ }
-    ensures { λ _. ⌜ FillsAll (now (input .entry)) (now (errors .entry)) (now (attributes .entry)) (now (errors .exit)) (now (attributes .exit)) ⌝ }
+    ensures { λ _. ⌜ FillsAll (now (input .entry)) (now (errors .entry)) (now (attributes .entry)) (now (errors .exit))
+        (now (attributes .exit)) ⌝ }
 {
     let own = scan(input, 0, input.len(), ERROR_FIELDS);
     put_error(

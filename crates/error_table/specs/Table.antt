@@ -68,7 +68,8 @@ badError size errors i =
 unfoldable pub badAttribute : ℕ → ℕ → List ℕ → ℕ → Bool
 badAttribute size errors attributes k =
     not (indexIn attributes k <? errors)
-    || (outside size (keyIn attributes k) (keyLengthIn attributes k) || outside size (valueIn attributes k) (valueLengthIn attributes k))
+    || (outside size (keyIn attributes k) (keyLengthIn attributes k) || outside size (valueIn attributes k)
+    (valueLengthIn attributes k))
 
 -- the first bad entry of each table, else the number of its entries
 

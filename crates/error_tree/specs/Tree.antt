@@ -40,7 +40,8 @@ dictionary s (at ∷ others) more =
 -- what the fields of an error hold, `deeper` being what an inner error's field does
 unfoldable pub fieldParts : (ℕ → Parts → Parts) → List ℕ → ℕ → Parts → Parts
 fieldParts deeper s at rest =
-    decide (numberAt s at =? 3 ⇒ dictionary s (inside dictionaryFields s at) rest ∷ numberAt s at =? 4 ⇒ deeper at rest ∷ []) rest
+    decide (numberAt s at =? 3 ⇒ dictionary s (inside dictionaryFields s at) rest ∷ numberAt s at =? 4 ⇒ deeper at rest
+    ∷ []) rest
 
 unfoldable pub partsWith : (ℕ → Parts → Parts) → List ℕ → List ℕ → Parts
 partsWith deeper s [] = none

@@ -28,7 +28,8 @@ sumOf f (at ∷ others) = f at + sumOf f others
 -- the message from `at` to `end`: the checks of each field's inside, and how many errors and attributes are in it
 abbrev pub WalksMessage : (ℕ → Answer → Answer) → (ℕ → ℕ) → (ℕ → ℕ) → ℕ → List ℕ → ℕ → ℕ → Walked → Type 0
 WalksMessage each errors attributes known s at end r =
-    Walk (checkMessage each known s at end) (sumOf errors (fields known s at end)) (sumOf attributes (fields known s at end)) (end - at) r
+    Walk (checkMessage each known s at end) (sumOf errors (fields known s at end))
+    (sumOf attributes (fields known s at end)) (end - at) r
 
 abbrev pub WalksField : (ℕ → Answer → Answer) → (ℕ → ℕ) → (ℕ → ℕ) → List ℕ → ℕ → Walked → Type 0
 WalksField each errors attributes s at r = Walk (each at) (errors at) (attributes at) (stopAt s at - at) r

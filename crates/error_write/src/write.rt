@@ -51,8 +51,10 @@ fn put_lead(out: &mut [u8], tag: u8, n: u64) -> usize
 
 // A stretch of the area as a field.
 fn put_stretch(out: &mut [u8], tag: u8, area: &[u8], offset: u64, size: u64) -> usize
-    requires { ⌜ (offset + size ≤ length (now area)) × (length (delimited tag (stretch (now area) offset size)) ≤ length (now out)) ⌝ }
-    ensures { λ r. ⌜ Puts (delimited tag (stretch (now (area .entry)) offset size)) (now (out .entry)) (now (out .exit)) r ⌝ }
+    requires { ⌜ (offset + size ≤ length (now area))
+        × (length (delimited tag (stretch (now area) offset size)) ≤ length (now out)) ⌝ }
+    ensures { λ r.
+        ⌜ Puts (delimited tag (stretch (now (area .entry)) offset size)) (now (out .entry)) (now (out .exit)) r ⌝ }
 {
     let start = offset as usize;
     let end = (offset + size) as usize;
@@ -63,8 +65,10 @@ fn put_stretch(out: &mut [u8], tag: u8, area: &[u8], offset: u64, size: u64) -> 
 
 // The key and the value of the attribute number `k`.
 fn put_attribute(out: &mut [u8], area: &[u8], errors: &[u64], attributes: &[u64], k: usize) -> usize
-    requires { ⌜ Sound (now area) (now errors) (now attributes) × (k < attributesIn (now attributes)) × (length (attributeBytes (now area) (now attributes) k) ≤ length (now out)) ⌝ }
-    ensures { λ r. ⌜ Puts (attributeBytes (now (area .entry)) (now (attributes .entry)) k) (now (out .entry)) (now (out .exit)) r ⌝ }
+    requires { ⌜ Sound (now area) (now errors) (now attributes) × (k < attributesIn (now attributes))
+        × (length (attributeBytes (now area) (now attributes) k) ≤ length (now out)) ⌝ }
+    ensures { λ r. ⌜ Puts (attributeBytes (now (area .entry)) (now (attributes .entry)) k) (now (out .entry))
+        (now (out .exit)) r ⌝ }
 {
     let at = put_stretch(
         out,
@@ -92,8 +96,11 @@ fn put_row(
     i: usize,
     k: usize,
 ) -> usize
-    requires { ⌜ Sound (now area) (now errors) (now attributes) × (k < attributesIn (now attributes)) × (length (rowBytes (now area) (now attributes) i k) ≤ length (now out)) ⌝ }
-    ensures { λ r. ⌜ Puts (rowBytes (now (area .entry)) (now (attributes .entry)) i k) (now (out .entry)) (now (out .exit)) r ⌝ }
+    requires { ⌜ Sound (now area) (now errors) (now attributes) × (k < attributesIn (now attributes))
+        × (length (rowBytes (now area) (now attributes) i k) ≤ length (now out)) ⌝ }
+    ensures { λ r.
+        ⌜ Puts (rowBytes (now (area .entry)) (now (attributes .entry)) i k) (now (out .entry)) (now (out .exit)) r
+        ⌝ }
 {
     if attributes[ATTRIBUTE_ENTRY * k] != (i as u64) {
         return 0;
@@ -112,8 +119,11 @@ fn put_entries(
     from: usize,
     till: usize,
 ) -> usize
-    requires { ⌜ Sound (now area) (now errors) (now attributes) × Covers (now attributes) i from till × (length (entriesBytes (now area) (now attributes) (allRows (now attributes) i)) ≤ length (now out)) ⌝ }
-    ensures { λ r. ⌜ Puts (entriesBytes (now (area .entry)) (now (attributes .entry)) (allRows (now (attributes .entry)) i)) (now (out .entry)) (now (out .exit)) r ⌝ }
+    requires { ⌜ Sound (now area) (now errors) (now attributes) × Covers (now attributes) i from till
+        × (length (entriesBytes (now area) (now attributes) (allRows (now attributes) i)) ≤ length (now out)) ⌝ }
+    ensures { λ r.
+        ⌜ Puts (entriesBytes (now (area .entry)) (now (attributes .entry)) (allRows (now (attributes .entry)) i))
+        (now (out .entry)) (now (out .exit)) r ⌝ }
 {
     let mut at = 0;
     let mut k = from;
@@ -135,8 +145,14 @@ fn put_dictionary(
     till: usize,
     entries: u64,
 ) -> usize
-    requires { ⌜ Sound (now area) (now errors) (now attributes) × Covers (now attributes) i from till × (entries ≡ length (entriesBytes (now area) (now attributes) (allRows (now attributes) i))) × (length (dictionaryBytes (entriesBytes (now area) (now attributes) (allRows (now attributes) i))) ≤ length (now out)) ⌝ }
-    ensures { λ r. ⌜ Puts (dictionaryBytes (entriesBytes (now (area .entry)) (now (attributes .entry)) (allRows (now (attributes .entry)) i))) (now (out .entry)) (now (out .exit)) r ⌝ }
+    requires { ⌜ Sound (now area) (now errors) (now attributes) × Covers (now attributes) i from till
+        × (entries ≡ length (entriesBytes (now area) (now attributes) (allRows (now attributes) i)))
+        × (length (dictionaryBytes (entriesBytes (now area) (now attributes) (allRows (now attributes) i)))
+        ≤ length (now out)) ⌝ }
+    ensures { λ r. ⌜ Puts
+        (dictionaryBytes
+        (entriesBytes (now (area .entry)) (now (attributes .entry)) (allRows (now (attributes .entry)) i)))
+        (now (out .entry)) (now (out .exit)) r ⌝ }
 {
     if entries == 0 {
         return 0;
@@ -156,8 +172,13 @@ fn put_own(
     till: usize,
     entries: u64,
 ) -> usize
-    requires { ⌜ Sound (now area) (now errors) (now attributes) × (i < errorsIn (now errors)) × Covers (now attributes) i from till × (entries ≡ length (entriesBytes (now area) (now attributes) (allRows (now attributes) i))) × (length (ownBytes (now area) (now errors) (now attributes) i) ≤ length (now out)) ⌝ }
-    ensures { λ r. ⌜ Puts (ownBytes (now (area .entry)) (now (errors .entry)) (now (attributes .entry)) i) (now (out .entry)) (now (out .exit)) r ⌝ }
+    requires { ⌜ Sound (now area) (now errors) (now attributes) × (i < errorsIn (now errors))
+        × Covers (now attributes) i from till
+        × (entries ≡ length (entriesBytes (now area) (now attributes) (allRows (now attributes) i)))
+        × (length (ownBytes (now area) (now errors) (now attributes) i) ≤ length (now out)) ⌝ }
+    ensures { λ r.
+        ⌜ Puts (ownBytes (now (area .entry)) (now (errors .entry)) (now (attributes .entry)) i) (now (out .entry))
+        (now (out .exit)) r ⌝ }
 {
     let code = put_lead(out, 0x08, errors[ERROR_ENTRY * i]);
     let text = code
@@ -193,8 +214,13 @@ fn put_inner(
     entries: u64,
     body: u64,
 ) -> usize
-    requires { ⌜ Sound (now area) (now errors) (now attributes) × (i < errorsIn (now errors)) × Covers (now attributes) i from till × (entries ≡ length (entriesBytes (now area) (now attributes) (allRows (now attributes) i))) × (length (lead 0x22 body ++ ownBytes (now area) (now errors) (now attributes) i) ≤ length (now out)) ⌝ }
-    ensures { λ r. ⌜ Puts (lead 0x22 body ++ ownBytes (now (area .entry)) (now (errors .entry)) (now (attributes .entry)) i) (now (out .entry)) (now (out .exit)) r ⌝ }
+    requires { ⌜ Sound (now area) (now errors) (now attributes) × (i < errorsIn (now errors))
+        × Covers (now attributes) i from till
+        × (entries ≡ length (entriesBytes (now area) (now attributes) (allRows (now attributes) i)))
+        × (length (lead 0x22 body ++ ownBytes (now area) (now errors) (now attributes) i) ≤ length (now out)) ⌝ }
+    ensures { λ r.
+        ⌜ Puts (lead 0x22 body ++ ownBytes (now (area .entry)) (now (errors .entry)) (now (attributes .entry)) i)
+        (now (out .entry)) (now (out .exit)) r ⌝ }
 {
     let at = put_lead(out, 0x22, body);
     at
@@ -212,8 +238,11 @@ fn put_inner(
 
 // The whole message over the front of `out`, which has the room: from the last entry to the first, as it is measured.
 fn write_errors(out: &mut [u8], area: &[u8], errors: &[u64], attributes: &[u64], total: usize)
-    requires { ⌜ Sound (now area) (now errors) (now attributes) × (total ≡ length (errorBytes (now area) (now errors) (now attributes))) × (total ≤ length (now out)) ⌝ }
-    ensures { λ _. ⌜ now (out .exit) ≡ over (errorBytes (now (area .entry)) (now (errors .entry)) (now (attributes .entry))) (now (out .entry)) ⌝ }
+    requires { ⌜ Sound (now area) (now errors) (now attributes)
+        × (total ≡ length (errorBytes (now area) (now errors) (now attributes))) × (total ≤ length (now out)) ⌝ }
+    ensures { λ _.
+        ⌜ now (out .exit) ≡ over (errorBytes (now (area .entry)) (now (errors .entry)) (now (attributes .entry)))
+        (now (out .entry)) ⌝ }
 {
     let sorted = is_sorted(attributes);
     let mut till = attributes.len() / ATTRIBUTE_ENTRY;
@@ -252,7 +281,8 @@ fn write_errors(out: &mut [u8], area: &[u8], errors: &[u64], attributes: &[u64],
 
 // Writes the tables as a TError; a refusal leaves the output as it was.
 pub fn encode_error(area: &[u8], errors: &[u64], attributes: &[u64], out: &mut [u8]) -> Encoded
-    ensures { λ r. ⌜ Encodes (now (area .entry)) (now (errors .entry)) (now (attributes .entry)) (now (out .entry)) r (now (out .exit)) ⌝ }
+    ensures { λ r. ⌜ Encodes (now (area .entry)) (now (errors .entry)) (now (attributes .entry)) (now (out .entry)) r
+        (now (out .exit)) ⌝ }
 {
     match size_checked(area, errors, attributes) {
         Measured::Refused(refusal) => Encoded::Refused(refusal),

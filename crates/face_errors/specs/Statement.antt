@@ -1,5 +1,5 @@
--- What each exported function on error messages promises, by name: the answer, the errors over the front of one table and the
--- attributes over the other's. Assumes nothing.
+-- What each exported function on error messages promises, by name: the answer, the errors over the front of one table
+-- and the attributes over the other's. Assumes nothing.
 use Prim.Native.Nat.{ℕ}
 use mathlib.Core.List.{List}
 use lib.ListN.{length}

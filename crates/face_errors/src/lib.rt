@@ -8,7 +8,9 @@ pub extern "C" fn cablefinch_error_read(
     errors: &mut [u64],
     attributes: &mut [u64],
 ) -> Outcome
-    ensures { λ r. ⌜ DecodesError (now (input .entry)) (now (errors .entry)) (now (attributes .entry)) r (now (errors .exit)) (now (attributes .exit)) ⌝ }
+    ensures { λ r.
+        ⌜ DecodesError (now (input .entry)) (now (errors .entry)) (now (attributes .entry)) r (now (errors .exit))
+        (now (attributes .exit)) ⌝ }
 {
     error_read::decode::decoded_outcome(error_read::decode::decode_error(input, errors, attributes))
 }
@@ -27,7 +29,9 @@ pub extern "C" fn cablefinch_error_write(
     attributes: &[u64],
     out: &mut [u8],
 ) -> Outcome
-    ensures { λ r. ⌜ EncodesError (now (area .entry)) (now (errors .entry)) (now (attributes .entry)) (now (out .entry)) r (now (out .exit)) ⌝ }
+    ensures { λ r.
+        ⌜ EncodesError (now (area .entry)) (now (errors .entry)) (now (attributes .entry)) (now (out .entry)) r
+        (now (out .exit)) ⌝ }
 {
     error_write::write::encoded_outcome(error_write::write::encode_error(
         area,

@@ -1,5 +1,5 @@
--- What each exported function on GUIDs promises, by name: its outcome is that of the answer that the library's definitions give, and
--- a lent buffer holds afterwards what they say. An id is lent as its wire bytes. Assumes nothing.
+-- What each exported function on GUIDs promises, by name: its outcome is that of the answer that the library's
+-- definitions give, and a lent buffer holds afterwards what they say. An id is lent as its wire bytes. Assumes nothing.
 use Prim.Native.Nat.{ℕ}
 use mathlib.Core.Path.{_≡_}
 use mathlib.Core.Bool.{Bool}
@@ -22,7 +22,8 @@ abbrev pub writingId : ℕ → Answer
 writingId given = decide (roomLine Output 16 given ∷ []) (accepted 16 [])
 
 abbrev pub WritesId : Guid → List ℕ → Outcome → List ℕ → Type 0
-WritesId g before r after = Tells (writingId (length before)) r × Holds (writingId (length before)) (wireBytes g) before after
+WritesId g before r after =
+    Tells (writingId (length before)) r × Holds (writingId (length before)) (wireBytes g) before after
 
 abbrev pub Prints : List ℕ → List ℕ → Outcome → List ℕ → Type 0
 Prints id before r after =

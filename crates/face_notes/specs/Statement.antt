@@ -1,5 +1,5 @@
--- What each exported function on YSON promises, by name: the answer of the input's reading; four words are room for an item.
--- Assumes nothing.
+-- What each exported function on YSON promises, by name: the answer of the input's reading; four words are room for an
+-- item. Assumes nothing.
 use Prim.Native.Nat.{ℕ, _/_}
 use mathlib.Core.List.{List}
 use lib.ListN.{length}

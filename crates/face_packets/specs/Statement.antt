@@ -1,5 +1,5 @@
--- What each exported function on packets promises, by name: its outcome is that of the answer that the library's definitions give,
--- and a lent buffer holds afterwards what they say. Assumes nothing.
+-- What each exported function on packets promises, by name: its outcome is that of the answer that the library's
+-- definitions give, and a lent buffer holds afterwards what they say. Assumes nothing.
 use Prim.Native.Nat.{ℕ}
 use mathlib.Core.Path.{_≡_}
 use mathlib.Core.Bool.{Bool}

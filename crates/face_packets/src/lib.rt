@@ -1,5 +1,5 @@
-// Packets: read into a lent part table, written from one. A type is its number; an unknown one is refused by 2, before all else.
-// A mode is a number too: 0 is archive, any other is live.
+// Packets: read into a lent part table, written from one. A type is its number; an unknown one is refused by 2, before
+// all else. A mode is a number too: 0 is archive, any other is live.
 ghost use Rattle.packet.specs.Statement.{PartChecksumIs};
 ghost use Rattle.packet_read.specs.Statement.{defaultCeiling};
 ghost use Rattle.face_packets.specs.Statement.{Decodes, unknownType, Encodes, Measures, Validates, LendsPart, Contains};
@@ -20,7 +20,8 @@ pub extern "C" fn cablefinch_decode_with(
     max_part_count: u32,
     parts: &mut [u64],
 ) -> Outcome
-    ensures { λ r. ⌜ Decodes mode (now (input .entry)) «max_message_size» «max_part_count» (now (parts .entry)) r (now (parts .exit)) ⌝ }
+    ensures { λ r. ⌜ Decodes mode (now (input .entry)) «max_message_size» «max_part_count» (now (parts .entry)) r
+        (now (parts .exit)) ⌝ }
 {
     let mode = mode_of(mode);
     packet_read::outcome(packet_read::decode_with(
@@ -39,7 +40,8 @@ pub extern "C" fn cablefinch_decode(
     max_message_size: u64,
     parts: &mut [u64],
 ) -> Outcome
-    ensures { λ r. ⌜ Decodes mode (now (input .entry)) «max_message_size» defaultCeiling (now (parts .entry)) r (now (parts .exit)) ⌝ }
+    ensures { λ r. ⌜ Decodes mode (now (input .entry)) «max_message_size» defaultCeiling (now (parts .entry)) r
+        (now (parts .exit)) ⌝ }
 {
     let mode = mode_of(mode);
     packet_read::outcome(packet_read::decode(mode, input, max_message_size, parts))
@@ -61,7 +63,9 @@ pub extern "C" fn cablefinch_encode(
     parts: &[u64],
     out: &mut [u8],
 ) -> Outcome
-    ensures { λ r. ⌜ Encodes mode kind flags (now (id .entry)) (now (area .entry)) (now (parts .entry)) (now (out .entry)) r (now (out .exit)) ⌝ }
+    ensures { λ r.
+        ⌜ Encodes mode kind flags (now (id .entry)) (now (area .entry)) (now (parts .entry)) (now (out .entry)) r
+        (now (out .exit)) ⌝ }
 {
     match packet::type_of(kind) {
         TypeFound::Unknown => unknown_type(kind),

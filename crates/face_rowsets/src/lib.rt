@@ -1,5 +1,5 @@
-// Rowsets: read into lent row and value tables, written from them; one value by itself; the plain form; the bytes behind a
-// value table packed.
+// Rowsets: read into lent row and value tables, written from them; one value by itself; the plain form; the bytes
+// behind a value table packed.
 ghost use Rattle.wire_read.specs.Statement.{TellsPlain};
 ghost use Rattle.face_rowsets.specs.Statement.{DecodesRowset, EncodesRowset, MeasuresRowset, ReadsValue, PacksArea};
 use words::outcome::Outcome;
@@ -10,7 +10,8 @@ pub extern "C" fn cablefinch_decode_rowset(
     rows: &mut [u64],
     values: &mut [u64],
 ) -> Outcome
-    ensures { λ r. ⌜ DecodesRowset (now (input .entry)) (now (rows .entry)) (now (values .entry)) r (now (rows .exit)) (now (values .exit)) ⌝ }
+    ensures { λ r. ⌜ DecodesRowset (now (input .entry)) (now (rows .entry)) (now (values .entry)) r (now (rows .exit))
+        (now (values .exit)) ⌝ }
 {
     wire_read::rowset::outcome(wire_read::rowset::decode_rowset(input, rows, values))
 }
@@ -22,7 +23,8 @@ pub extern "C" fn cablefinch_encode_rowset(
     values: &[u64],
     out: &mut [u8],
 ) -> Outcome
-    ensures { λ r. ⌜ EncodesRowset (now (area .entry)) (now (rows .entry)) (now (values .entry)) (now (out .entry)) r (now (out .exit)) ⌝ }
+    ensures { λ r. ⌜ EncodesRowset (now (area .entry)) (now (rows .entry)) (now (values .entry)) (now (out .entry)) r
+        (now (out .exit)) ⌝ }
 {
     wire_write::write::outcome(wire_write::write::encode_rowset(area, rows, values, out))
 }
@@ -50,7 +52,8 @@ pub extern "C" fn cablefinch_is_plain(input: &[u8]) -> bool
 
 #[no_mangle]
 pub extern "C" fn cablefinch_pack(area: &[u8], values: &mut [u64], out: &mut [u8]) -> Outcome
-    ensures { λ r. ⌜ PacksArea (now (area .entry)) (now (values .entry)) (now (out .entry)) r (now (values .exit)) (now (out .exit)) ⌝ }
+    ensures { λ r. ⌜ PacksArea (now (area .entry)) (now (values .entry)) (now (out .entry)) r (now (values .exit))
+        (now (out .exit)) ⌝ }
 {
     pack_answer::answer::outcome(pack::pack(area, values, out))
 }

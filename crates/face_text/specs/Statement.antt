@@ -1,5 +1,5 @@
--- What each exported function on a rowset's text promises, by name: its outcome is that of the answer that the library's
--- definitions give, and each lent buffer holds afterwards what they say. Assumes nothing.
+-- What each exported function on a rowset's text promises, by name: its outcome is that of the answer that the
+-- library's definitions give, and each lent buffer holds afterwards what they say. Assumes nothing.
 use Prim.Native.Nat.{ℕ, _/_}
 use mathlib.Core.List.{List}
 use lib.ListN.{length}
@@ -26,4 +26,5 @@ abbrev pub ReadsRowsetText : List ℕ → List ℕ → List ℕ → List ℕ →
 ReadsRowsetText s rows values area r rows′ values′ area′ =
     let answer = readingText s (length rows) (length values / entryWords) (length area) in
     let read = rowsRead (walking s) in
-    Tells answer r × Holds answer (rowTable read) rows rows′ × Holds answer (valueTable read) values values′ × Holds answer (areaBytes read) area area′
+    Tells answer r × Holds answer (rowTable read) rows rows′ × Holds answer (valueTable read) values values′
+    × Holds answer (areaBytes read) area area′

@@ -1,4 +1,5 @@
-// Rowsets as tab-separated text: measured and written from lent tables over an area, and read into lent tables and a lent area.
+// Rowsets as tab-separated text: measured and written from lent tables over an area, and read into lent tables and a
+// lent area.
 ghost use Rattle.face_text.specs.Statement.{MeasuresText, WritesRowsetText, ReadsRowsetText};
 use words::outcome::Outcome;
 
@@ -16,7 +17,8 @@ pub extern "C" fn cablefinch_write_text(
     values: &[u64],
     out: &mut [u8],
 ) -> Outcome
-    ensures { λ r. ⌜ WritesRowsetText (now (area .entry)) (now (rows .entry)) (now (values .entry)) (now (out .entry)) r (now (out .exit)) ⌝ }
+    ensures { λ r. ⌜ WritesRowsetText (now (area .entry)) (now (rows .entry)) (now (values .entry)) (now (out .entry)) r
+        (now (out .exit)) ⌝ }
 {
     wire_write::write::outcome(text_write::write::write_text(area, rows, values, out))
 }
@@ -28,7 +30,8 @@ pub extern "C" fn cablefinch_read_text(
     values: &mut [u64],
     area: &mut [u8],
 ) -> Outcome
-    ensures { λ r. ⌜ ReadsRowsetText (now (text .entry)) (now (rows .entry)) (now (values .entry)) (now (area .entry)) r (now (rows .exit)) (now (values .exit)) (now (area .exit)) ⌝ }
+    ensures { λ r. ⌜ ReadsRowsetText (now (text .entry)) (now (rows .entry)) (now (values .entry)) (now (area .entry)) r
+        (now (rows .exit)) (now (values .exit)) (now (area .exit)) ⌝ }
 {
     text_walk::walk::walked_outcome(text_read::read::read_text(text, rows, values, area))
 }

@@ -1,4 +1,5 @@
--- What `read_whole` promises: the bytes that it tells lie in the buffer. What a system call reads no contract can say. Assumes nothing.
+-- What `read_whole` promises: the bytes that it tells lie in the buffer. What a system call reads no contract can say.
+-- Assumes nothing.
 use Prim.Native.Nat.{ℕ, _≤_}
 use mathlib.Core.List.{List}
 use mathlib.Core.Path.{_≡_}

@@ -1,5 +1,5 @@
-// Lists each file that its arguments name, behind a line with the name: inputs at the edges of `list`, with the output that each
-// must have, for a gate that runs a program on one standard input only.
+// Lists each file that its arguments name, behind a line with the name: inputs at the edges of `list`, with the output
+// that each must have, for a gate that runs a program on one standard input only.
 use libc::STDERR_FILENO;
 use libc::STDOUT_FILENO;
 

@@ -1,6 +1,6 @@
--- The whole output of `list` for an input, after document 01: it "reads standard input, at most 65,536 bytes (more prints `too
--- long`), with limits 65,536 bytes and 2,048 parts". It reads in archive mode, which "still reads, lists and writes
--- such packets" (document 02, A12). Assumes nothing.
+-- The whole output of `list` for an input, after document 01: it "reads standard input, at most 65,536 bytes (more
+-- prints `too long`), with limits 65,536 bytes and 2,048 parts". It reads in archive mode, which "still reads, lists
+-- and writes such packets" (document 02, A12). Assumes nothing.
 use Prim.Native.Nat.{ℕ, zero, suc, _+_, _*_}
 use mathlib.Core.List.{List, [], _∷_, _++_}
 use lib.Dec.{leb}

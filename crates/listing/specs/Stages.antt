@@ -1,4 +1,5 @@
--- What the private writers of text hand on. Nobody has to believe it: contracts of private functions cite it. Assumes nothing.
+-- What the private writers of text hand on. Nobody has to believe it: contracts of private functions cite it. Assumes
+-- nothing.
 use Prim.Native.Nat.{ℕ, _+_, _*_, _<_, _≤_}
 use mathlib.Core.List.{List, [], _∷_, _++_}
 use mathlib.Core.Path.{_≡_}

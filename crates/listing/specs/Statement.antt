@@ -15,4 +15,5 @@ paper (Refused short) = refuse 17 (noRoomValues short)
 
 -- listing s answers r, and the buffer that held `before` holds the whole output over its front
 abbrev pub Lists : List ℕ → List ℕ → Listed → List ℕ → Type 0
-Lists s before r after = Means paper (listing s (length before)) r × Holds (listing s (length before)) (output s) before after
+Lists s before r after =
+    Means paper (listing s (length before)) r × Holds (listing s (length before)) (output s) before after

@@ -1,6 +1,6 @@
--- The lines that `list` prints, from document 01: "Fields: offset, type, flags, id, parts (decimal but for the id); then
--- `part I LENGTH` or `part I null` per part, I from 0. Last line: `end` (no bytes left), `more` or `refused`, with the offset where
--- the next, unfinished or refused packet begins, and for `refused` the number." Assumes nothing.
+-- The lines that `list` prints, from document 01: "Fields: offset, type, flags, id, parts (decimal but for the id);
+-- then `part I LENGTH` or `part I null` per part, I from 0. Last line: `end` (no bytes left), `more` or `refused`, with
+-- the offset where the next, unfinished or refused packet begins, and for `refused` the number." Assumes nothing.
 use Prim.Native.Nat.{ℕ, zero, suc}
 use mathlib.Core.List.{List, [], _∷_, _++_}
 use lib.ListN.{getD}
@@ -22,7 +22,9 @@ abbrev pub idOf : List ℕ → List ℕ
 idOf fields = textOf (guidOf (getD fields 2 0) (getD fields 3 0) (getD fields 4 0) (getD fields 5 0))
 
 unfoldable pub packetLine : ℕ → List ℕ → List ℕ
-packetLine offset fields = line (text "packet" ∷ decimal offset ∷ decimal (getD fields 0 0) ∷ decimal (getD fields 1 0) ∷ idOf fields ∷ decimal (getD fields 6 0) ∷ [])
+packetLine offset fields =
+    line (text "packet" ∷ decimal offset ∷ decimal (getD fields 0 0) ∷ decimal (getD fields 1 0) ∷ idOf fields
+    ∷ decimal (getD fields 6 0) ∷ [])
 
 -- document 02, A6: "`list` prints `guarded` (word not 0) or `bare` at the end of each non-null part line"
 abbrev pub guardText : ℕ → List ℕ

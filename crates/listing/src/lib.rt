@@ -1,5 +1,5 @@
-// What the program `list` prints, whole, as one function of its input: a line for each packet and part, and how the bytes end.
-// The program over it only reads and writes.
+// What the program `list` prints, whole, as one function of its input: a line for each packet and part, and how the
+// bytes end. The program over it only reads and writes.
 use packet::ENTRY_WORDS;
 use packet::Mode;
 use packet::NULL_CHECKSUM;
@@ -45,7 +45,8 @@ pub enum Listed {
     Refused(NoRoom),
 }
 
-// One step of the walk: a packet's lines end at `end`, and the next packet begins at `next`; or the last line ends there.
+// One step of the walk: a packet's lines end at `end`, and the next packet begins at `next`; or the last line ends
+// there.
 enum Stepped {
     Packet { next: usize, end: usize },
     Last(usize),
@@ -53,7 +54,8 @@ enum Stepped {
 
 fn packet_line(out: &mut [u8], at: usize, offset: usize, packet: packet::Packet) -> usize
     requires { ⌜ at + 128 ≤ length (now out) ⌝ }
-    ensures { λ r. ⌜ Wrote (packetLine offset (fieldsOf packet)) at (now (out .entry)) r (now (out .exit)) × (r ≤ at + 128) ⌝ }
+    ensures { λ r.
+        ⌜ Wrote (packetLine offset (fieldsOf packet)) at (now (out .entry)) r (now (out .exit)) × (r ≤ at + 128) ⌝ }
 {
     let packet_type = packet.packet_type;
     let type_at = put_bytes(out, at, b"packet ");
@@ -101,7 +103,8 @@ fn part_line(out: &mut [u8], at: usize, index: usize, size: u64, sum: u64) -> us
 // The lines of the parts of a part table, of which the first `count` entries are asked for.
 fn part_lines(out: &mut [u8], at: usize, parts: &[u64], count: usize) -> usize
     requires { ⌜ (at + 55 * count ≤ length (now out)) × (entryWords * count ≤ length (now parts)) ⌝ }
-    ensures { λ r. ⌜ Wrote (partLines (now (parts .entry)) count) at (now (out .entry)) r (now (out .exit)) × (r ≤ at + 55 * count) ⌝ }
+    ensures { λ r. ⌜ Wrote (partLines (now (parts .entry)) count) at (now (out .entry)) r (now (out .exit))
+        × (r ≤ at + 55 * count) ⌝ }
 {
     let mut next = at;
     let mut index = 0;
@@ -121,8 +124,10 @@ fn packet_lines(
     packet: packet::Packet,
     parts: &[u64],
 ) -> usize
-    requires { ⌜ (at + (128 + 55 * packet .parts) ≤ length (now out)) × (entryWords * packet .parts ≤ length (now parts)) ⌝ }
-    ensures { λ r. ⌜ Wrote (packetLine offset (fieldsOf packet) ++ partLines (now (parts .entry)) (packet .parts)) at (now (out .entry)) r (now (out .exit)) × (r ≤ at + (128 + 55 * packet .parts)) ⌝ }
+    requires { ⌜ (at + (128 + 55 * packet .parts) ≤ length (now out))
+        × (entryWords * packet .parts ≤ length (now parts)) ⌝ }
+    ensures { λ r. ⌜ Wrote (packetLine offset (fieldsOf packet) ++ partLines (now (parts .entry)) (packet .parts)) at
+        (now (out .entry)) r (now (out .exit)) × (r ≤ at + (128 + 55 * packet .parts)) ⌝ }
 {
     let count = packet.parts as usize;
     let parts_at = packet_line(out, at, offset, packet);
@@ -156,7 +161,8 @@ fn refused_line(out: &mut [u8], at: usize, offset: usize, number: u64) -> usize
 
 // The lines for the packet that begins at `offset`, written at `at`.
 fn step(input: &[u8], offset: usize, parts: &mut [u64], out: &mut [u8], at: usize) -> Stepped
-    requires { ⌜ (length (now input) ≤ mostBytes) × (offset ≤ length (now input)) × (at ≤ 5 * offset) × (textRoom ≤ length (now out)) × (length (now parts) ≡ entryWords * partCeiling) ⌝ }
+    requires { ⌜ (length (now input) ≤ mostBytes) × (offset ≤ length (now input)) × (at ≤ 5 * offset)
+        × (textRoom ≤ length (now out)) × (length (now parts) ≡ entryWords * partCeiling) ⌝ }
     ensures { λ r. ⌜ Steps (now (input .entry)) offset at (now (out .entry)) r (now (out .exit)) ⌝ }
 {
     if input.len() <= offset {
@@ -186,8 +192,10 @@ fn step(input: &[u8], offset: usize, parts: &mut [u64], out: &mut [u8], at: usiz
 
 // All lines, over the front of `out`.
 fn lines(input: &[u8], parts: &mut [u64], out: &mut [u8]) -> usize
-    requires { ⌜ (length (now input) ≤ mostBytes) × (textRoom ≤ length (now out)) × (length (now parts) ≡ entryWords * partCeiling) ⌝ }
-    ensures { λ r. ⌜ Wrote (linesFrom (length (now (input .entry)) + 1) (now (input .entry)) 0) 0 (now (out .entry)) r (now (out .exit)) ⌝ }
+    requires { ⌜ (length (now input) ≤ mostBytes) × (textRoom ≤ length (now out))
+        × (length (now parts) ≡ entryWords * partCeiling) ⌝ }
+    ensures { λ r. ⌜ Wrote (linesFrom (length (now (input .entry)) + 1) (now (input .entry)) 0) 0 (now (out .entry)) r
+        (now (out .exit)) ⌝ }
 {
     let mut offset = 0;
     let mut at = 0;

@@ -1,5 +1,6 @@
-// Numbers as text: decimal for offsets and counts, hex for the words of a GUID. A number is spelled highest digit first, without
-// leading zeros, over the front of a lent part; where it does not fit the part keeps its contents, and the count is told all the same.
+// Numbers as text: decimal for offsets and counts, hex for the words of a GUID. A number is spelled highest digit
+// first, without leading zeros, over the front of a lent part; where it does not fit the part keeps its contents, and
+// the count is told all the same.
 ghost use mathlib.Core.Path.{_≡_};
 ghost use Prim.Native.Nat.{_^_, _<_, _≤_};
 ghost use lib.ListN.{length};
@@ -75,8 +76,8 @@ pub fn write_decimal(out: &mut [u8], number: u64) -> usize
     count
 }
 
-// The value of a hex digit in either case, 16 for any other byte. A `match` on the byte compiles to a read-only table, where
-// comparisons would be branches that no processor foresees.
+// The value of a hex digit in either case, 16 for any other byte. A `match` on the byte compiles to a read-only table,
+// where comparisons would be branches that no processor foresees.
 pub fn digit_value(byte: u8) -> u32
     ensures { λ r. ⌜ ValueOf byte r ⌝ }
 {

@@ -38,7 +38,8 @@ fn same_pair(values: &[u64], j: usize, i: usize) -> bool
 
 // Along the links from the word `head`: the entry with the pair of the entry i, or the word over which to link i.
 fn find(values: &[u64], i: usize, head: usize) -> Place
-    requires { ⌜ (5 * i + 5 ≤ length (now values)) × (head % 5 ≡ 0) × (head < length (now values)) × Climbs (now values) ⌝ }
+    requires { ⌜ (5 * i + 5 ≤ length (now values)) × (head % 5 ≡ 0) × (head < length (now values))
+        × Climbs (now values) ⌝ }
     ensures { λ r. ⌜ Finds (now (values .entry)) i head r ⌝ }
 {
     let mut slot = head;
@@ -93,7 +94,8 @@ fn put_link(values: &mut [u64], s: usize, k: usize)
 // Links each first use into its bucket and each other use to its first; the sum of the lengths of the first uses.
 fn link_all(values: &mut [u64]) -> u64
     requires { ⌜ Spare (now values) ⌝ }
-    ensures { λ r. ⌜ (r ≡ capped (needed (now (values .entry)))) × Linking (now (values .entry)) (now (values .exit)) (entriesIn (now (values .entry))) ⌝ }
+    ensures { λ r. ⌜ (r ≡ capped (needed (now (values .entry))))
+        × Linking (now (values .entry)) (now (values .exit)) (entriesIn (now (values .entry))) ⌝ }
 {
     let size = values.len() / 5;
     let mut sum = 0;
@@ -194,7 +196,9 @@ fn copy_all(area: &[u8], values: &[u64], out: &mut [u8])
     requires { ⌜ Movable (plain (now values)) (now values) ⌝ }
     requires { ⌜ Inside (now area) (plain (now values)) ⌝ }
     requires { ⌜ needed (plain (now values)) ≤ length (now out) ⌝ }
-    ensures { λ r. ⌜ now (out .exit) ≡ over (packedBytes (now (area .entry)) (plain (now (values .entry))) (entriesIn (plain (now (values .entry))))) (now (out .entry)) ⌝ }
+    ensures { λ r. ⌜ now (out .exit)
+        ≡ over (packedBytes (now (area .entry)) (plain (now (values .entry))) (entriesIn (plain (now (values .entry)))))
+        (now (out .entry)) ⌝ }
 {
     let size = values.len() / 5;
     let mut at = 0;
@@ -210,8 +214,10 @@ fn copy_all(area: &[u8], values: &[u64], out: &mut [u8])
 
 // A table of so few words that passed rules 1 and 3.
 fn pack_linked(area: &[u8], values: &mut [u64], out: &mut [u8]) -> Packed
-    requires { ⌜ (length (now values) % 5 ≡ 0) × (entriesIn (now values) ≤ firstBad (length (now area)) (now values)) × (length (now values) < 2 ^ 48) ⌝ }
-    ensures { λ r. ⌜ Packs (now (area .entry)) (now (values .entry)) (now (out .entry)) r (now (values .exit)) (now (out .exit)) ⌝ }
+    requires { ⌜ (length (now values) % 5 ≡ 0) × (entriesIn (now values) ≤ firstBad (length (now area)) (now values))
+        × (length (now values) < 2 ^ 48) ⌝ }
+    ensures { λ r. ⌜ Packs (now (area .entry)) (now (values .entry)) (now (out .entry)) r (now (values .exit))
+        (now (out .exit)) ⌝ }
 {
     let sum = link_all(values);
     if (out.len() as u64) < sum {
@@ -230,7 +236,8 @@ fn pack_linked(area: &[u8], values: &mut [u64], out: &mut [u8]) -> Packed
 // Packs the byte area behind a value table into a second one; a refusal leaves the table and the second area as they
 // were.
 pub fn pack(area: &[u8], values: &mut [u64], out: &mut [u8]) -> Packed
-    ensures { λ r. ⌜ Packs (now (area .entry)) (now (values .entry)) (now (out .entry)) r (now (values .exit)) (now (out .exit)) ⌝ }
+    ensures { λ r. ⌜ Packs (now (area .entry)) (now (values .entry)) (now (out .entry)) r (now (values .exit))
+        (now (out .exit)) ⌝ }
 {
     if LINKED_WORDS <= values.len() {
         return pack_plain(area, values, out);

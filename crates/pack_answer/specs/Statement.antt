@@ -17,7 +17,8 @@ use Rattle.pack_answer.specs.declared.answer.Packed.{Packed}
 abbrev pub Packs : List ℕ → List ℕ → List ℕ → Packed → List ℕ → List ℕ → Type 0
 Packs area values out r values′ out′ =
     let answer = packing area values (length out) in
-    Means paperPacked answer r × Holds answer (packedTable values) values values′ × Holds answer (packedArea area values) out out′
+    Means paperPacked answer r × Holds answer (packedTable values) values values′
+    × Holds answer (packedArea area values) out out′
 
 abbrev pub IsBlob : ℕ → Bool → Type 0
 IsBlob type r = r ≡ blob type

@@ -112,7 +112,8 @@ pub record Over (values t : List ℕ) : Type 0 where
 
 -- the entry j is new and linked, or the link over its type names the first use of its pair
 abbrev pub Settled : List ℕ → List ℕ → ℕ → Type 0
-Settled values t j = (New values j × Linked t j) ⊎ ((firstUse values j < j) × (link t (5 * j + 1) ≡ firstUse values j + 1))
+Settled values t j =
+    (New values j × Linked t j) ⊎ ((firstUse values j < j) × (link t (5 * j + 1) ≡ firstUse values j + 1))
 
 -- the links after the first i entries
 pub record Linking (values t : List ℕ) (i : ℕ) : Type 0 where
@@ -130,7 +131,8 @@ goesOn t i = (link t (5 * i + 1) =? 0) || i <? link t (5 * i + 1)
 -- the fourth word of the entry i, once those before it have theirs, where the next pair goes to `at`
 abbrev pub wordFor : List ℕ → ℕ → ℕ → ℕ
 wordFor t i at =
-    pick (blob (typeAt t i % 65_536)) (pick (0 <? lengthAt t i) (pick (goesOn t i) at (offsetAt t (link t (5 * i + 1) - 1))) 0) (offsetAt t i)
+    pick (blob (typeAt t i % 65_536))
+    (pick (0 <? lengthAt t i) (pick (goesOn t i) at (offsetAt t (link t (5 * i + 1) - 1))) 0) (offsetAt t i)
 
 -- the room that the entry i takes
 abbrev pub roomFor : List ℕ → ℕ → ℕ
@@ -145,4 +147,5 @@ pub record Movable (values t : List ℕ) : Type 0 where
 -- the entry i of t without its links, its fourth word being w
 abbrev pub settled : List ℕ → ℕ → ℕ → List ℕ
 settled t i w =
-    set (set (set (set t (5 * i) (getD t (5 * i) 0 % 65_536)) (5 * i + 1) (getD t (5 * i + 1) 0 % 65_536)) (5 * i + 2) (getD t (5 * i + 2) 0 % 65_536)) (5 * i + 3) w
+    set (set (set (set t (5 * i) (getD t (5 * i) 0 % 65_536)) (5 * i + 1) (getD t (5 * i + 1) 0 % 65_536)) (5 * i + 2)
+    (getD t (5 * i + 2) 0 % 65_536)) (5 * i + 3) w

@@ -16,7 +16,8 @@ use Rattle.pack_pairs.specs.Pairs.{typeAt, offsetAt, lengthAt, pairAt, d
 -- is empty; the bits of any other value
 unfoldable pub placed : List ℕ → ℕ → ℕ
 placed values i =
-    pick (blob (typeAt values i)) (pick (0 <? lengthAt values i) (before (pairAt values i) (distinct values)) 0) (offsetAt values i)
+    pick (blob (typeAt values i)) (pick (0 <? lengthAt values i) (before (pairAt values i) (distinct values)) 0)
+    (offsetAt values i)
 
 -- the list of f at n numbers from k on
 unfoldable pub table : (ℕ → ℕ) → ℕ → ℕ → List ℕ

@@ -52,7 +52,8 @@ newOffset values i = room values (firstUse values i)
 
 -- the fourth word of the entry i afterwards
 unfoldable pub newWord : List ℕ → ℕ → ℕ
-newWord values i = pick (blob (typeAt values i)) (pick (0 <? lengthAt values i) (newOffset values i) 0) (offsetAt values i)
+newWord values i =
+    pick (blob (typeAt values i)) (pick (0 <? lengthAt values i) (newOffset values i) 0) (offsetAt values i)
 
 abbrev pub packedWord : List ℕ → ℕ → ℕ
 packedWord values k = pick ((k % entryWords) =? 3) (newWord values (k / entryWords)) (getD values k 0)
@@ -67,4 +68,5 @@ needed values = room values (entriesIn values)
 
 -- each pair lies in the area
 abbrev pub Inside : List ℕ → List ℕ → Type 0
-Inside area values = (i : ℕ) → i < entriesIn values → stored values i ≡ true → offsetAt values i + lengthAt values i ≤ length area
+Inside area values =
+    (i : ℕ) → i < entriesIn values → stored values i ≡ true → offsetAt values i + lengthAt values i ≤ length area

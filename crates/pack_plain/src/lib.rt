@@ -109,7 +109,9 @@ fn move_all(values: &mut [u64])
 // Copies each first use's bytes behind those before it.
 fn copy_all(area: &[u8], values: &[u64], out: &mut [u8])
     requires { ⌜ Inside (now area) (now values) × (needed (now values) ≤ length (now out)) ⌝ }
-    ensures { λ _. ⌜ now (out .exit) ≡ over (packedBytes (now (area .entry)) (now (values .entry)) (entriesIn (now (values .entry)))) (now (out .entry)) ⌝ }
+    ensures { λ _. ⌜ now (out .exit)
+        ≡ over (packedBytes (now (area .entry)) (now (values .entry)) (entriesIn (now (values .entry))))
+        (now (out .entry)) ⌝ }
 {
     let size = values.len() / ENTRY_WORDS;
     let mut at = 0;
@@ -125,7 +127,8 @@ fn copy_all(area: &[u8], values: &[u64], out: &mut [u8])
 
 // Packs a table of any length; a refusal leaves the table and the second area as they were.
 pub fn pack_plain(area: &[u8], values: &mut [u64], out: &mut [u8]) -> Packed
-    ensures { λ r. ⌜ Packs (now (area .entry)) (now (values .entry)) (now (out .entry)) r (now (values .exit)) (now (out .exit)) ⌝ }
+    ensures { λ r. ⌜ Packs (now (area .entry)) (now (values .entry)) (now (out .entry)) r (now (values .exit))
+        (now (out .exit)) ⌝ }
 {
     let entries = values.len() / ENTRY_WORDS;
     if values.len() % ENTRY_WORDS != 0 {

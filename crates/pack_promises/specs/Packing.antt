@@ -40,7 +40,8 @@ abbrev pub PackMovesOffsetsAlone : Type 0
 PackMovesOffsetsAlone =
     (area values out : List ℕ) (r : Packed) (values′ out′ : List ℕ) → Packs area values out r values′ out′
     → (length values′ ≡ length values)
-    × ((k : ℕ) → (k % entryWords ≡ 3 → blob (typeAt values (k / entryWords)) ≡ true → ⊥) → getD values′ k 0 ≡ getD values k 0)
+    × ((k : ℕ) → (k % entryWords ≡ 3 → blob (typeAt values (k / entryWords)) ≡ true → ⊥)
+    → getD values′ k 0 ≡ getD values k 0)
 
 -- "Writing the rowset before and after gives the same bytes": with any row table and any output, the same answer, a
 -- refusal too, and the same output afterwards.
@@ -58,7 +59,8 @@ abbrev pub PackTwice : Type 0
 PackTwice =
     (area values out : List ℕ) (n : ℕ) (values′ out′ : List ℕ) → Packs area values out (Filled n) values′ out′
     → (second : List ℕ) → Begins n out′ second
-    → (third : List ℕ) (r : Packed) (values″ third′ : List ℕ) → n ≤ length third → Packs second values′ third r values″ third′
+    → (third : List ℕ) (r : Packed) (values″ third′ : List ℕ) → n ≤ length third
+    → Packs second values′ third r values″ third′
     → (r ≡ Filled n) × (values″ ≡ values′) × (take n third′ ≡ take n out′)
 
 -- no pair stands in the list twice
@@ -72,7 +74,8 @@ abbrev pub PackPairs : Type 0
 PackPairs =
     (values : List ℕ)
     → ((i : ℕ) → i < entriesIn values → stored values i ≡ true → has (pairAt values i) (distinct values) ≡ true)
-    × ((p : Pair) → ((i : ℕ) → i < entriesIn values → stored values i ≡ true → pairAt values i ≡ p → ⊥) → has p (distinct values) ≡ false)
+    × ((p : Pair) → ((i : ℕ) → i < entriesIn values → stored values i ≡ true → pairAt values i ≡ p → ⊥)
+    → has p (distinct values) ≡ false)
     × Once (distinct values)
 
 -- "The room needed is the sum of the distinct pairs' lengths", "and nothing else is kept": so many bytes are filled,
@@ -82,7 +85,8 @@ abbrev pub PackRoom : Type 0
 PackRoom =
     (area values out : List ℕ) (r : Packed) (values′ out′ : List ℕ) → Packs area values out r values′ out′
     → ((n : ℕ) → r ≡ Filled n
-    → (n ≡ sizes (distinct values)) × (n ≤ length out) × (take n out′ ≡ bytesOfPairs area (distinct values)) × (drop n out′ ≡ drop n out))
+    → (n ≡ sizes (distinct values)) × (n ≤ length out) × (take n out′ ≡ bytesOfPairs area (distinct values))
+    × (drop n out′ ≡ drop n out))
     × ((short : words.NoRoom) → r ≡ Refused (NoRoom short)
     → (short ≡ record { room = Output; needed = capped (sizes (distinct values)); given = length out })
     × (length out < sizes (distinct values)))

@@ -82,7 +82,8 @@ module _ (area table : List ℕ) (i : ℕ) where
 
 -- "Reading fills whole entries from the front": the entry of part i of the n of an input s
 abbrev pub entry : List ℕ → ℕ → ℕ → List ℕ
-entry s n i = pick (Layout.isNull s i) (0 ∷ nullLength ∷ partSum s n i ∷ []) (start s n i ∷ size s i ∷ partSum s n i ∷ [])
+entry s n i =
+    pick (Layout.isNull s i) (0 ∷ nullLength ∷ partSum s n i ∷ []) (start s n i ∷ size s i ∷ partSum s n i ∷ [])
 
 -- the entries of the k parts before part i + k, from part i on
 unfoldable pub entriesFrom : List ℕ → ℕ → ℕ → ℕ → List ℕ

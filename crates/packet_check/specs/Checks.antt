@@ -1,7 +1,7 @@
--- What the writer checks, from document 01: "Writing order: 18, 3, 4, 17", and document 02, A12: "24 RetiredType (type),
--- [..] in writing directly after 18". 17 is the writer's own; `validate` and `encoded_size` answer by the others. 18
--- carries a rule and a position: rule 1, the words are not whole entries, whose number is the position; rule 3, the
--- first entry that names a stretch outside the area. 3 and 4 carry at most 2^32-1. Assumes nothing.
+-- What the writer checks, from document 01: "Writing order: 18, 3, 4, 17", and document 02, A12: "24 RetiredType
+-- (type), [..] in writing directly after 18". 17 is the writer's own; `validate` and `encoded_size` answer by the
+-- others. 18 carries a rule and a position: rule 1, the words are not whole entries, whose number is the position; rule
+-- 3, the first entry that names a stretch outside the area. 3 and 4 carry at most 2^32-1. Assumes nothing.
 use Prim.Native.Nat.{ℕ, _%_, _^_, _-_, min}
 use mathlib.Core.List.{List, [], _∷_, _++_}
 use lib.ListN.{length}

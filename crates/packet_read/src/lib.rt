@@ -360,7 +360,8 @@ pub fn decode_with(
     max_part_count: u32,
     parts: &mut [u64],
 ) -> Decoded
-    ensures { λ r. ⌜ Decodes (now (input .entry)) (limited mode «max_message_size» «max_part_count» (now (parts .entry)))
+    ensures { λ r.
+        ⌜ Decodes (now (input .entry)) (limited mode «max_message_size» «max_part_count» (now (parts .entry)))
         (now (parts .entry)) r (now (parts .exit)) ⌝ }
 {
     match fixed_header(mode, input) {

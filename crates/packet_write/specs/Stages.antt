@@ -1,5 +1,5 @@
--- What the private writers speak of, the size words by the table's entries, and the output while the checksum of both is
--- still to come; nobody has to believe it. Assumes nothing.
+-- What the private writers speak of, the size words by the table's entries, and the output while the checksum of both
+-- is still to come; nobody has to believe it. Assumes nothing.
 use Prim.Native.Nat.{ℕ, zero, suc, _+_, _*_}
 use mathlib.Core.List.{List, [], _++_}
 use lib.ListN.{take, drop}
@@ -26,4 +26,5 @@ partsAt table = checksumBytes * room table + checksumBytes
 -- an output from there on, with the checksum words over its front and the parts at their place
 abbrev pub parted : List ℕ → List ℕ → List ℕ → List ℕ
 parted area table out =
-    over (sums (partsOf area table)) (take (partsAt table) out) ++ over (contents (partsOf area table)) (drop (partsAt table) out)
+    over (sums (partsOf area table)) (take (partsAt table) out)
+    ++ over (contents (partsOf area table)) (drop (partsAt table) out)

@@ -91,8 +91,8 @@ fn write_sizes(parts: &[u64], out: &mut [u8])
     }
 }
 
-// The checksum words of the parts at the front of `out`, and the parts behind them and the eight bytes of the words' own
-// checksum, which stay as they were. A part is copied and folded on one walk, and its word is put after it.
+// The checksum words of the parts at the front of `out`, and the parts behind them and the eight bytes of the words'
+// own checksum, which stay as they were. A part is copied and folded on one walk, and its word is put after it.
 fn write_parts(area: &[u8], parts: &[u64], out: &mut [u8])
     requires { ⌜ (room (now parts) ≤ firstOutside (now area) (now parts))
         × (partsAt (now parts) + length (contents (partsOf (now area) (now parts))) ≤ length (now out)) ⌝ }

@@ -91,7 +91,8 @@ pub record Hit (s t : List ℕ) (part : Stretch) (at run : ℕ) : Type 0 where
   pub few : run ≤ 64
   pub guarded : stored s part ≡ 0 → ⊥
   pub inside : Inside s t part (from s part) (long s part)
-  pub flipped : Damaged at run (bits (stretch s (from s part) (long s part))) (bits (stretch t (from s part) (long s part)))
+  pub flipped : Damaged at run (bits (stretch s (from s part) (long s part)))
+      (bits (stretch t (from s part) (long s part)))
 
 -- the same in bytes, of which at most eight are altered, from byte `at` of the input on
 pub record HitInBytes (s t : List ℕ) (part : Stretch) (at run : ℕ) : Type 0 where
@@ -124,7 +125,8 @@ DamageIsNamed = NamedWhere Hit
 abbrev pub BytesAreNamed : Type 0
 BytesAreNamed = NamedWhere HitInBytes
 
--- of `decode_with` by the limits of its call, in either mode and under whichever ceiling, where the tables lent have one length
+-- of `decode_with` by the limits of its call, in either mode and under whichever ceiling, where the tables lent have
+-- one length
 abbrev pub NamedUnder : Mode → ℕ → Type 0
 NamedUnder mode ceiling =
     (s t : List ℕ) (limit : ℕ) (table lent : List ℕ) (packet : Packet) (consumed : ℕ) (filled : List ℕ)

@@ -22,7 +22,8 @@ use Rattle.wire_read.specs.Reading.{reading as readingRowset}
 -- a packet of this type, flags 0, id words 1 to 4, no parts, checksum 0
 abbrev pub bare : ℕ → List ℕ
 bare type =
-    bytesOf 4 0x7861_6d4f ++ bytesOf 2 type ++ bytesOf 2 0 ++ bytesOf 4 1 ++ bytesOf 4 2 ++ bytesOf 4 3 ++ bytesOf 4 4 ++ bytesOf 4 0
+    bytesOf 4 0x7861_6d4f ++ bytesOf 2 type ++ bytesOf 2 0 ++ bytesOf 4 1 ++ bytesOf 4 2 ++ bytesOf 4 3 ++ bytesOf 4 4
+    ++ bytesOf 4 0
     ++ bytesOf 8 0
 
 abbrev pub ack : List ℕ

@@ -1,5 +1,5 @@
--- The third word of a part's entry. Document 02, A6: "The part table gets a third word, the checksum word as stored in the
--- packet, null parts included. The writer doesn't read it." Assumes nothing.
+-- The third word of a part's entry. Document 02, A6: "The part table gets a third word, the checksum word as stored in
+-- the packet, null parts included. The writer doesn't read it." Assumes nothing.
 use Prim.Native.Nat.{ℕ, _+_, _*_, _^_, _<_}
 use mathlib.Core.List.{List, _++_}
 use mathlib.Core.Path.{_≡_}

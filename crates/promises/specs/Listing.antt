@@ -1,5 +1,6 @@
--- What the program `list` prints, said of the crate's function by its own statement `Lists`. Document 01: "reads standard input, at
--- most 65,536 bytes (more prints `too long`), with limits 65,536 bytes and 2,048 parts." It reads in archive mode. Assumes nothing.
+-- What the program `list` prints, said of the crate's function by its own statement `Lists`. Document 01: "reads
+-- standard input, at most 65,536 bytes (more prints `too long`), with limits 65,536 bytes and 2,048 parts." It reads in
+-- archive mode. Assumes nothing.
 use Prim.Native.Nat.{ℕ, _+_, _≤_, _<_}
 use mathlib.Core.List.{List, _++_}
 use mathlib.Core.Path.{_≡_}
@@ -32,8 +33,8 @@ pub data Printed (s : List ℕ) : ℕ → List ℕ → Type 0 where
       → Printed s (offset + consumed) rest
       → Printed s offset (packetLine offset fields ++ partLines (entries (drop offset s)) (getD fields 6 0) ++ rest)
 
--- What `list` wrote, given a buffer of 327,808 bytes or more, is the lines from the front of an input of at most 65,536 bytes, and
--- `too long` for a longer one.
+-- What `list` wrote, given a buffer of 327,808 bytes or more, is the lines from the front of an input of at most 65,536
+-- bytes, and `too long` for a longer one.
 abbrev pub ListPrints : Type 0
 ListPrints =
     (s before : List ℕ) (n : ℕ) (after : List ℕ) → Lists s before (Written n) after → 327_808 ≤ length before

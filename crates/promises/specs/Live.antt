@@ -1,6 +1,6 @@
--- What live mode changes, of the functions by their own statements. Document 02, A12: "no live peer may send type 2. Add a
--- live mode, chosen by the caller: its reader and its writer refuse type 2. [..] Demand 2's equality with the Rust is
--- claimed for archive mode, and in live mode for every other type." Assumes nothing.
+-- What live mode changes, of the functions by their own statements. Document 02, A12: "no live peer may send type 2.
+-- Add a live mode, chosen by the caller: its reader and its writer refuse type 2. [..] Demand 2's equality with the
+-- Rust is claimed for archive mode, and in live mode for every other type." Assumes nothing.
 use Prim.Native.Nat.{ℕ, _%_, _≤_, _<_}
 use mathlib.Core.Bool.{false}
 use mathlib.Core.List.{List}

@@ -61,9 +61,9 @@ Lends s filled i null = (nullAt filled i ≡ true) × LendsFront s filled i
 Lends s filled i (bytes b) =
     (nullAt filled i ≡ false) × ((from : ℕ × ℕ) (r : List ℕ) (at : ℕ × ℕ) → LendsPart s filled i from r at → r ≡ b)
 
--- Writing and reading, of the functions: the bytes that `encode` says it wrote, in whichever mode, with any tail, under limits and a table
--- that hold them, are answered by `decode_with` with the packet that was given and just its bytes consumed, and its
--- table lends each part.
+-- Writing and reading, of the functions: the bytes that `encode` says it wrote, in whichever mode, with any tail, under
+-- limits and a table that hold them, are answered by `decode_with` with the packet that was given and just its bytes
+-- consumed, and its table lends each part.
 abbrev pub WrittenIsLent : Type 0
 WrittenIsLent =
     (mode : Mode) (type : PacketType) (flags : PacketFlags) (id : Guid) (area table out : List ℕ)

@@ -55,20 +55,21 @@ pub record Roomy (s rows values : List ℕ) : Type 0 where
   pub for-rows : countAt s 0 ≤ length rows
   pub for-values : valuesOf s ≤ length values / entryWords
 
--- The reader says that it read exactly where the input is acceptable and the tables have the room, and tells how many rows and
--- values there are; it says 17 exactly where all else passes, for the rows first.
+-- The reader says that it read exactly where the input is acceptable and the tables have the room, and tells how many
+-- rows and values there are; it says 17 exactly where all else passes, for the rows first.
 abbrev pub RowsetReaderAccepts : Type 0
 RowsetReaderAccepts =
     (s rows values : List ℕ) (r : Decoded) (rows′ values′ : List ℕ) → Decodes s rows values r rows′ values′
     → ((n m : ℕ) → r ≡ Read n m → Acceptable s × Roomy s rows values × (n ≡ countAt s 0) × (m ≡ valuesOf s))
     × (Acceptable s → Roomy s rows values → r ≡ Read (countAt s 0) (valuesOf s))
     × ((short : words.NoRoom) → r ≡ Refused (NoRoom short) → Acceptable s × (Roomy s rows values → ⊥))
-    × (Acceptable s → length rows < countAt s 0 → r ≡ Refused (NoRoom (record { room = Rows; needed = countAt s 0; given = length rows })))
+    × (Acceptable s → length rows < countAt s 0
+    → r ≡ Refused (NoRoom (record { room = Rows; needed = countAt s 0; given = length rows })))
     × (Acceptable s → countAt s 0 ≤ length rows → length values / entryWords < valuesOf s
     → r ≡ Refused (NoRoom (record { room = Values; needed = valuesOf s; given = length values / entryWords })))
 
--- The answer is that of one line of the order, the lines before it silent; or all are silent, and the rowset is read. The same line
--- tells what it found (document 02, A9).
+-- The answer is that of one line of the order, the lines before it silent; or all are silent, and the rowset is read.
+-- The same line tells what it found (document 02, A9).
 abbrev pub RowsetOrderDecides : Type 0
 RowsetOrderDecides =
     (s rows values : List ℕ) (r : Decoded) (rows′ values′ : List ℕ) → Decodes s rows values r rows′ values′

@@ -28,7 +28,8 @@ unfoldable pub booleanOfTwo : List ℕ
 booleanOfTwo = bytesOf 8 1 ++ bytesOf 8 1 ++ (5 ∷ 0 ∷ 6 ∷ 0 ∷ []) ++ bytesOf 4 0 ++ bytesOf 8 2
 
 unfoldable pub paddingOfEight : List ℕ
-paddingOfEight = bytesOf 8 1 ++ bytesOf 8 1 ++ (5 ∷ 0 ∷ 17 ∷ 0 ∷ []) ++ bytesOf 4 5 ++ replicate 5 97 ++ (0 ∷ 0 ∷ 8 ∷ [])
+paddingOfEight =
+    bytesOf 8 1 ++ bytesOf 8 1 ++ (5 ∷ 0 ∷ 17 ∷ 0 ∷ []) ++ bytesOf 4 5 ++ replicate 5 97 ++ (0 ∷ 0 ∷ 8 ∷ [])
 
 unfoldable pub aggregateOfTwo : List ℕ
 aggregateOfTwo = bytesOf 8 1 ++ bytesOf 8 1 ++ (5 ∷ 0 ∷ 2 ∷ 2 ∷ []) ++ bytesOf 4 0
@@ -41,7 +42,8 @@ aggregateNull = bytesOf 8 1 ++ bytesOf 8 1 ++ (5 ∷ 0 ∷ 2 ∷ 1 ∷ []) ++ by
 
 -- Not so: a row stands under its neighbour's place.
 abbrev pub NotUnderTheNeighbour : Type 0
-NotUnderTheNeighbour = ((s : List ℕ) (i : ℕ) → i < countAt s 0 → getD (rowsOf s) i null ≡ rowAt s (rowPlace s (i + 1))) → ⊥
+NotUnderTheNeighbour =
+    ((s : List ℕ) (i : ℕ) → i < countAt s 0 → getD (rowsOf s) i null ≡ rowAt s (rowPlace s (i + 1))) → ⊥
 
 -- Not so: a null row is read as an empty one.
 abbrev pub NullIsNotEmpty : Type 0

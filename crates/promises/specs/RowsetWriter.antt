@@ -42,13 +42,15 @@ pub record Encodable (area rows values : List ℕ) : Type 0 where
   -- 13
   pub small : length (tableBytes area rows values) ≤ maxSize
 
--- The writer says that it wrote exactly where the tables can be written and the output has the room, and the count that it
--- answers is the length of the bytes; it says 17 exactly where all else passes.
+-- The writer says that it wrote exactly where the tables can be written and the output has the room, and the count that
+-- it answers is the length of the bytes; it says 17 exactly where all else passes.
 abbrev pub RowsetWriterAccepts : Type 0
 RowsetWriterAccepts =
     (area rows values before : List ℕ) (r : Encoded) (after : List ℕ) → Encodes area rows values before r after
     → let size = length (tableBytes area rows values) in
-    ((n : ℕ) → r ≡ Written n → Encodable area rows values × (n ≡ size) × (size ≤ length before) × (after ≡ over (tableBytes area rows values) before))
+    ((n : ℕ) → r ≡ Written n → Encodable area rows values × (n ≡ size) × (size ≤ length before)
+    × (after ≡ over (tableBytes area rows values) before))
     × (Encodable area rows values → size ≤ length before → r ≡ Written size)
     × ((short : words.NoRoom) → r ≡ Refused (NoRoom short) → Encodable area rows values × (length before < size))
-    × (Encodable area rows values → length before < size → r ≡ Refused (NoRoom (record { room = Output; needed = size; given = length before })))
+    × (Encodable area rows values → length before < size
+    → r ≡ Refused (NoRoom (record { room = Output; needed = size; given = length before })))

@@ -1,5 +1,6 @@
--- Demand 2 for rowsets: every row in its place. A lookup answers one row per event in the order asked, and a null row for an
--- event without terms. If one were dropped, every later glossary would appear under the wrong title. Assumes nothing.
+-- Demand 2 for rowsets: every row in its place. A lookup answers one row per event in the order asked, and a null row
+-- for an event without terms. If one were dropped, every later glossary would appear under the wrong title. Assumes
+-- nothing.
 use Prim.Native.Nat.{ℕ, _+_, _*_, _/_, _^_, _≤_, _<_}
 use mathlib.Core.Bool.{Bool, true, false}
 use mathlib.Core.List.{List, []}
@@ -18,9 +19,9 @@ use Rattle.wire_write.specs.Statement.{Encodes}
 use Rattle.wire.specs.Content.{Row, null, rowAt, rowsOf, rowsIn, bytesOfRows, Writable}
 use Rattle.promises.specs.RowsetReader.{rowPlace, EachRow, EachValue, Acceptable, Roomy}
 
--- What `decode_rowset` reads: as many rows and values as it tells; row i of the tables is what stands at row i of the input, for
--- every i, a null row too, its word the count that stands there and its entries those of the values behind that count; together
--- the tables hold the input's content; and the words past the entries are kept.
+-- What `decode_rowset` reads: as many rows and values as it tells; row i of the tables is what stands at row i of the
+-- input, for every i, a null row too, its word the count that stands there and its entries those of the values behind
+-- that count; together the tables hold the input's content; and the words past the entries are kept.
 abbrev pub RowsInOrder : Type 0
 RowsInOrder =
     (s rows values : List ℕ) (n m : ℕ) (rows′ values′ : List ℕ) → Decodes s rows values (Read n m) rows′ values′
@@ -42,8 +43,8 @@ RowsByPlace = (s : List ℕ) (i : ℕ) → i < countAt s 0 → getD (rowsOf s) i
 abbrev pub RowsetRoundTrip : Type 0
 RowsetRoundTrip = (rows : List Row) → Writable rows → Acceptable (bytesOfRows rows) × (rowsOf (bytesOfRows rows) ≡ rows)
 
--- What `encode_rowset` wrote, `decode_rowset` reads into tables that have the room: the same rows, offsets apart, and as many; and
--- `is_plain` says yes. (A table's words are of 64 bits.)
+-- What `encode_rowset` wrote, `decode_rowset` reads into tables that have the room: the same rows, offsets apart, and
+-- as many; and `is_plain` says yes. (A table's words are of 64 bits.)
 abbrev pub RowsetEncodeThenDecode : Type 0
 RowsetEncodeThenDecode =
     (area rows values out : List ℕ) (n : ℕ) (after : List ℕ)
@@ -58,8 +59,8 @@ RowsetEncodeThenDecode =
     × (rowsIn (take n after) (take (length rows) rowTable′) valueTable′ ≡ rowsIn area rows values)
     × (says ≡ true)
 
--- Two inputs that differ only in padding, in the length words of types 2 to 6, in which non-zero byte an aggregate is or which
--- non-zero word a boolean is: every other byte is the same.
+-- Two inputs that differ only in padding, in the length words of types 2 to 6, in which non-zero byte an aggregate is
+-- or which non-zero word a boolean is: every other byte is the same.
 
 -- the n bytes from `from` on are the same
 abbrev pub Agree : List ℕ → List ℕ → ℕ → ℕ → Type 0
@@ -90,15 +91,17 @@ IgnoredBytes =
     → (r ≡ r′) × (rows′ ≡ rows″) × (values′ ≡ values″))
 
 -- The plain form, document 01: "every aggregate byte is 0 or 1, the four scalar types have length word 0, boolean words
--- are 0 or 1, and padding is zero"; document 02, A2, of a Null's length word: "That word must be zero too." So every type
--- but the blobs' has 0 there.
+-- are 0 or 1, and padding is zero"; document 02, A2, of a Null's length word: "That word must be zero too." So every
+-- type but the blobs' has 0 there.
 pub record PlainAt (s : List ℕ) (at : ℕ) : Type 0 where
   pub aggregate-byte : aggregateAt s at ≤ 1
   pub length-word : blob (typeAt s at) ≡ false → lengthAt s at ≡ 0
   pub boolean-word : typeAt s at ≡ boolean → scalarAt s at ≤ 1
-  pub padding-zero : blob (typeAt s at) ≡ true → (i : ℕ) → i < padding (lengthAt s at) → getD s (at + 8 + lengthAt s at + i) 0 ≡ 0
+  pub padding-zero : blob (typeAt s at) ≡ true → (i : ℕ) → i < padding (lengthAt s at)
+      → getD s (at + 8 + lengthAt s at + i) 0 ≡ 0
 
--- `is_plain` says yes exactly where the input is at most 2^30 bytes, the reader accepts it, room aside, and every value is plain.
+-- `is_plain` says yes exactly where the input is at most 2^30 bytes, the reader accepts it, room aside, and every value
+-- is plain.
 abbrev pub PlainExactly : Type 0
 PlainExactly =
     (s : List ℕ) (says : Bool) → TellsPlain s says
@@ -108,7 +111,8 @@ PlainExactly =
 -- What is written has the plain form.
 abbrev pub WrittenIsPlain : Type 0
 WrittenIsPlain =
-    (rows : List Row) (says : Bool) → Writable rows → length (bytesOfRows rows) ≤ maxSize → TellsPlain (bytesOfRows rows) says → says ≡ true
+    (rows : List Row) (says : Bool) → Writable rows → length (bytesOfRows rows) ≤ maxSize
+    → TellsPlain (bytesOfRows rows) says → says ≡ true
 
 -- What was read: the entries that the answer tells of the tables; where reading refused, none.
 abbrev pub rowsRead : Decoded → List ℕ → List ℕ
@@ -126,8 +130,8 @@ WrittenBack s (Read n m) (NotWritten refusal) after = ⊥
 WrittenBack s (NotRead refusal) written after = ⊥
 
 -- Document 02, A2: "the check says yes exactly when the input equals what the writer produces for the rows read from
--- it". The reader has tables with the room, the writer is given what was read, the input as its area, and an output with
--- room for the input. (An input's bytes are below 256.)
+-- it". The reader has tables with the room, the writer is given what was read, the input as its area, and an output
+-- with room for the input. (An input's bytes are below 256.)
 abbrev pub PlainIsWhatTheWriterWrites : Type 0
 PlainIsWhatTheWriterWrites =
     (s : List ℕ) (says : Bool)

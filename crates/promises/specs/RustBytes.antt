@@ -60,7 +60,8 @@ lent = 7 ∷ 7 ∷ 7 ∷ 7 ∷ 7 ∷ 7 ∷ 7 ∷ 7 ∷ 7 ∷ []
 
 abbrev pub RustBytes : Type 0
 RustBytes =
-    (packetBytes 0 1 (guidOf 0x0302_0100 0x0706_0504 0x0b0a_0908 0x0f0e_0d0c) (null ∷ bytes (text "hello") ∷ bytes [] ∷ []) ≡ packet)
+    (packetBytes 0 1 (guidOf 0x0302_0100 0x0706_0504 0x0b0a_0908 0x0f0e_0d0c)
+    (null ∷ bytes (text "hello") ∷ bytes [] ∷ []) ≡ packet)
     × (readingPacket packet (limited Archive 85 3 lent)
     ≡ accepted 85 (0 ∷ 1 ∷ 0x0302_0100 ∷ 0x0706_0504 ∷ 0x0b0a_0908 ∷ 0x0f0e_0d0c ∷ 3 ∷ []))
     × (entries packet ≡ 0 ∷ nullLength ∷ 0 ∷ 80 ∷ 5 ∷ 0xee4dae65093ed566 ∷ 85 ∷ 0 ∷ 0 ∷ [])

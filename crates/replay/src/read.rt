@@ -1,4 +1,5 @@
-// The words of a case, by compare/PROTOCOL.md. Every function takes every text: what is no number, hex or table reads as something.
+// The words of a case, by compare/PROTOCOL.md. Every function takes every text: what is no number, hex or table reads
+// as something.
 ghost use mathlib.Core.Path.{_≡_};
 ghost use Prim.Native.Nat.{_<_, _≤_};
 ghost use lib.ListN.{length};

@@ -1,5 +1,5 @@
-// One case: its line's words, the call of the static library's function, and the answer. Every lent table and buffer is filled with
-// bytes 0xa5 before the call.
+// One case: its line's words, the call of the static library's function, and the answer. Every lent table and buffer is
+// filled with bytes 0xa5 before the call.
 use crate::packets;
 use crate::read::bytes_into;
 use crate::read::cut;

@@ -1,5 +1,5 @@
--- Rows as tab-separated text, after document 02, A1: the text of rows as a function of their content, and which rows have a
--- text. Offsets, tables and limits are no part of it, and no reader. Assumes nothing.
+-- Rows as tab-separated text, after document 02, A1: the text of rows as a function of their content, and which rows
+-- have a text. Offsets, tables and limits are no part of it, and no reader. Assumes nothing.
 use Prim.Native.Nat.{ℕ, zero, suc, _+_, _/_, _%_, _<_, _≤_, _^_}
 use mathlib.Core.Bool.{Bool, true}
 use mathlib.Core.List.{List, [], _∷_, _++_}

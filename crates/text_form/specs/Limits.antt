@@ -1,6 +1,6 @@
--- Document 01's limits as they are met when a text is read. Document 02, A1: "10, 13 and 11 once the row's or value's first byte
--- fits, 12 at a whole blob byte, 13 at the tab or line feed after a value, with the first number over". At each byte first
--- whether it fits, then the limits that are asked at it, each list in its order. Assumes nothing.
+-- Document 01's limits as they are met when a text is read. Document 02, A1: "10, 13 and 11 once the row's or value's
+-- first byte fits, 12 at a whole blob byte, 13 at the tab or line feed after a value, with the first number over". At
+-- each byte first whether it fits, then the limits that are asked at it, each list in its order. Assumes nothing.
 use Prim.Native.Nat.{ℕ, _+_}
 use mathlib.Core.Bool.{_&&_, _||_}
 use mathlib.Core.List.{List, [], _∷_, _++_}

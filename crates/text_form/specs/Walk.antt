@@ -118,7 +118,8 @@ step (at rows cells (letter id aggregate)) b =
     ∷ [])
     (off tt)
 step (at rows cells (digits id aggregate type k w)) b =
-    pick (fitsWord type k (smallValue b)) (on (behindDigit rows cells id aggregate type k (w * 16 + smallValue b))) (off tt)
+    pick (fitsWord type k (smallValue b)) (on (behindDigit rows cells id aggregate type k (w * 16 + smallValue b)))
+    (off tt)
 step (at rows cells (full c)) b =
     decide
     (b =? tab ⇒ on (at rows (cells ++ c ∷ []) fresh)
@@ -130,7 +131,8 @@ step (at rows cells (percent id aggregate type s)) b =
 step (at rows cells (second id aggregate type s h)) b =
     decide
     (15 <? capitalValue b ⇒ off tt
-    ∷ escaped (h * 16 + capitalValue b) ⇒ on (at rows cells (full (cellOf id aggregate type (bytes (s ++ (h * 16 + capitalValue b) ∷ [])))))
+    ∷ escaped (h * 16 + capitalValue b) ⇒ on
+    (at rows cells (full (cellOf id aggregate type (bytes (s ++ (h * 16 + capitalValue b) ∷ [])))))
     ∷ [])
     (off tt)
 

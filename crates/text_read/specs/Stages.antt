@@ -1,5 +1,6 @@
--- What the private stages of the second walk hand on: nobody has to believe it. A stage is for a text whose reading comes to its
--- end, and says where and in which state that reading goes on, for whatever rows and values were read before. Assumes nothing.
+-- What the private stages of the second walk hand on: nobody has to believe it. A stage is for a text whose reading
+-- comes to its end, and says where and in which state that reading goes on, for whatever rows and values were read
+-- before. Assumes nothing.
 use Prim.Native.Nat.{ℕ, zero, suc, _+_, _*_, _≤_, _<_}
 use mathlib.Core.Bool.{Bool, true}
 use mathlib.Core.Path.{_≡_}
@@ -37,7 +38,8 @@ HasLetter s i id aggregate = Has s i (letter id aggregate) × Signless s i aggre
 
 abbrev pub ReadsLetter : List ℕ → ℕ → ℕ → ℕ → Head → Type 0
 ReadsLetter s i id aggregate r =
-    (rows : List Row) (cells : List Cell) (final : List Row) → from s i (at rows cells (letter id aggregate)) ≡ read final
+    (rows : List Row) (cells : List Cell) (final : List Row) → from s i (at rows cells (letter id aggregate))
+    ≡ read final
     → (i ≤ r .next) × (known (r .kind) ≡ true) × (r .id ≡ id) × (r .aggregate ≡ aggregate)
     × (from s (r .next) (at rows cells (opened id aggregate (r .kind))) ≡ read final)
 
@@ -47,7 +49,8 @@ ReadsHead s i n r =
     → (i ≤ r .next) × (known (r .kind) ≡ true)
     × (from s (r .next) (at rows cells (opened (r .id) (r .aggregate) (r .kind))) ≡ read final)
 
--- k digits from the place i on; their values, the first in the lowest byte of a word; the number that they spell behind w
+-- k digits from the place i on; their values, the first in the lowest byte of a word; the number that they spell behind
+-- w
 abbrev pub Digits : ℕ → List ℕ → ℕ → Type 0
 Digits zero s i = Unit {0}
 Digits (suc k) s i = (smallValue (getD s i 0) ≤ 15) × Digits k s (i + 1)
@@ -76,7 +79,8 @@ abbrev pub ReadsEscape : List ℕ → ℕ → ℕ → Type 0
 ReadsEscape s i r =
     (rows : List Row) (cells : List Cell) (id aggregate type : ℕ) (t : List ℕ) (final : List Row)
     → from s i (at rows cells (percent id aggregate type t)) ≡ read final
-    → (i + 2 ≤ length s) × (from s (i + 2) (at rows cells (full (cellOf id aggregate type (bytes (t ++ r ∷ []))))) ≡ read final)
+    → (i + 2 ≤ length s)
+    × (from s (i + 2) (at rows cells (full (cellOf id aggregate type (bytes (t ++ r ∷ []))))) ≡ read final)
 
 -- so much of the area is used by the rows and values read, and it has room for all that come
 abbrev pub AreaRoom : List Row → List Cell → List Row → ℕ → List ℕ → Type 0
@@ -90,7 +94,8 @@ TableRoom rows cells final k values =
 abbrev pub HasBlob : List ℕ → ℕ → ℕ → List ℕ → Type 0
 HasBlob s i used area =
     (rows : List Row) × (cells : List Cell) × (id : ℕ) × (aggregate : ℕ) × (type : ℕ) × (final : List Row)
-    × (from s i (at rows cells (full (cellOf id aggregate type (bytes [])))) ≡ read final) × AreaRoom rows cells final used area
+    × (from s i (at rows cells (full (cellOf id aggregate type (bytes [])))) ≡ read final)
+    × AreaRoom rows cells final used area
 
 abbrev pub CopiesUnits : List ℕ → ℕ → ℕ → List ℕ → List ℕ → Copied → Type 0
 CopiesUnits s i used area area′ r =
@@ -102,7 +107,8 @@ CopiesUnits s i used area area′ r =
 abbrev pub HasContent : List ℕ → ℕ → ℕ → ℕ → List ℕ → Type 0
 HasContent s i type used area =
     (rows : List Row) × (cells : List Cell) × (id : ℕ) × (aggregate : ℕ) × (final : List Row)
-    × (from s i (at rows cells (opened id aggregate type)) ≡ read final) × (known type ≡ true) × AreaRoom rows cells final used area
+    × (from s i (at rows cells (opened id aggregate type)) ≡ read final) × (known type ≡ true)
+    × AreaRoom rows cells final used area
 
 -- the words of an entry that this content has, where the area is used so far
 abbrev pub Stores : ℕ → Content → List ℕ → List ℕ → Payload → Type 0
@@ -120,7 +126,8 @@ ReadsContent s i type used area area′ r =
 abbrev pub HasValue : List ℕ → ℕ → ℕ → List ℕ → ℕ → List ℕ → ℕ → Type 0
 HasValue s i n values k area used =
     (rows : List Row) × (cells : List Cell) × (final : List Row)
-    × (from s i (at rows cells (number n)) ≡ read final) × TableRoom rows cells final k values × AreaRoom rows cells final used area
+    × (from s i (at rows cells (number n)) ≡ read final) × TableRoom rows cells final k values
+    × AreaRoom rows cells final used area
 
 abbrev pub FillsValue : List ℕ → ℕ → ℕ → ℕ → ℕ → List ℕ → List ℕ → List ℕ → List ℕ → Value → Type 0
 FillsValue s i n k used values area values′ area′ r =
@@ -155,4 +162,5 @@ HasText s rows values area =
 abbrev pub FillsText : List ℕ → List ℕ → List ℕ → List ℕ → List ℕ → List ℕ → List ℕ → Type 0
 FillsText s rows values area rows′ values′ area′ =
     (final : List Row) → walking s ≡ read final
-    → (rows′ ≡ sets rows 0 (rowTable final)) × (values′ ≡ sets values 0 (valueTable final)) × (area′ ≡ sets area 0 (areaBytes final))
+    → (rows′ ≡ sets rows 0 (rowTable final)) × (values′ ≡ sets values 0 (valueTable final))
+    × (area′ ≡ sets area 0 (areaBytes final))

@@ -1,5 +1,5 @@
--- What `read_text` promises, by name, over the text, the result and the lent tables and area at entry and at exit. Document 02, A1:
--- 19, 10, 13, 11 and 12 "as met", "then 17 (2, 3, 4 for the area)". Assumes nothing.
+-- What `read_text` promises, by name, over the text, the result and the lent tables and area at entry and at exit.
+-- Document 02, A1: 19, 10, 13, 11 and 12 "as met", "then 17 (2, 3, 4 for the area)". Assumes nothing.
 use Prim.Native.Nat.{ℕ, _/_}
 use mathlib.Core.List.{List, [], _∷_}
 use mathlib.Core.Logic.{_⊎_}
@@ -35,10 +35,13 @@ roomed rowRoom valueRoom byteRoom rows =
 unfoldable pub readingText : List ℕ → ℕ → ℕ → ℕ → Answer
 readingText s rowRoom valueRoom byteRoom = endingAs (roomed rowRoom valueRoom byteRoom) (walking s)
 
--- the answer, and where it is no refusal the rows over the front of one table, their values over the other's, and their blobs
--- over the area's
+-- the answer, and where it is no refusal the rows over the front of one table, their values over the other's, and their
+-- blobs over the area's
 pub record ReadsText (s rows values area : List ℕ) (r : Walked) (rows′ values′ area′ : List ℕ) : Type 0 where
   pub means : Means walkedPaper (readingText s (length rows) (length values / entryWords) (length area)) r
-  pub rows-hold : Holds (readingText s (length rows) (length values / entryWords) (length area)) (rowTable (rowsRead (walking s))) rows rows′
-  pub values-hold : Holds (readingText s (length rows) (length values / entryWords) (length area)) (valueTable (rowsRead (walking s))) values values′
-  pub area-holds : Holds (readingText s (length rows) (length values / entryWords) (length area)) (areaBytes (rowsRead (walking s))) area area′
+  pub rows-hold : Holds (readingText s (length rows) (length values / entryWords) (length area))
+      (rowTable (rowsRead (walking s))) rows rows′
+  pub values-hold : Holds (readingText s (length rows) (length values / entryWords) (length area))
+      (valueTable (rowsRead (walking s))) values values′
+  pub area-holds : Holds (readingText s (length rows) (length values / entryWords) (length area))
+      (areaBytes (rowsRead (walking s))) area area′

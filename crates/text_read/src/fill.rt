@@ -1,4 +1,5 @@
-// The second walk, over a text that the first has found good and for which there is room: the tables and the area are filled.
+// The second walk, over a text that the first has found good and for which there is room: the tables and the area are
+// filled.
 ghost use mathlib.Core.Path.{_≡_};
 ghost use Prim.Native.Nat.{_+_, _≤_};
 ghost use lib.ListN.{length};
@@ -107,8 +108,8 @@ fn read_head(text: &[u8], start: usize, first: u64) -> Head
     read_letter(text, at, number.value, 0)
 }
 
-// The values of eight digits, each in the byte that its digit has in a word: a letter has the bit 64 and lies 39 behind the digit
-// that would follow 9.
+// The values of eight digits, each in the byte that its digit has in a word: a letter has the bit 64 and lies 39 behind
+// the digit that would follow 9.
 fn digit_values(text: &[u8], at: usize) -> u64
     requires { ⌜ (at + 8 ≤ length (now text)) × Digits 8 (now text) at ⌝ }
     ensures { λ r. ⌜ r ≡ digitValues 8 (now (text .entry)) at ⌝ }
@@ -118,8 +119,8 @@ fn digit_values(text: &[u8], at: usize) -> u64
     word - 0x3030_3030_3030_3030 - 39 * letters
 }
 
-// The number that eight digits spell. Each byte of `pairs` is 16 times a digit and the next, so no carry leaves it; every other one
-// is wanted.
+// The number that eight digits spell. Each byte of `pairs` is 16 times a digit and the next, so no carry leaves it;
+// every other one is wanted.
 fn eight_digits(text: &[u8], at: usize) -> u64
     requires { ⌜ (at + 8 ≤ length (now text)) × Digits 8 (now text) at ⌝ }
     ensures { λ r. ⌜ r ≡ spelling 8 (now (text .entry)) at 0 ⌝ }
@@ -234,7 +235,9 @@ fn fill_value(
     used: usize,
 ) -> Value
     requires { ⌜ HasValue (now text) at first (now values) k (now area) used ⌝ }
-    ensures { λ r. ⌜ FillsValue (now (text .entry)) at first k used (now (values .entry)) (now (area .entry)) (now (values .exit)) (now (area .exit)) r ⌝ }
+    ensures { λ r.
+        ⌜ FillsValue (now (text .entry)) at first k used (now (values .entry)) (now (area .entry)) (now (values .exit))
+        (now (area .exit)) r ⌝ }
 {
     let head = read_head(text, at, first);
     let payload = read_payload(text, head.next, head.kind, area, used);
@@ -261,7 +264,9 @@ fn fill_values(
     before: usize,
 ) -> Line
     requires { ⌜ HasValues (now text) start (now values) first (now area) before ⌝ }
-    ensures { λ r. ⌜ FillsLine (now (text .entry)) start first before (now (values .entry)) (now (area .entry)) (now (values .exit)) (now (area .exit)) r ⌝ }
+    ensures { λ r.
+        ⌜ FillsLine (now (text .entry)) start first before (now (values .entry)) (now (area .entry))
+        (now (values .exit)) (now (area .exit)) r ⌝ }
 {
     let mut at = start;
     let mut k = first;
@@ -308,7 +313,9 @@ fn fill_line(
     used: usize,
 ) -> Line
     requires { ⌜ HasLine (now text) at (now values) k (now area) used ⌝ }
-    ensures { λ r. ⌜ FillsLine (now (text .entry)) at k used (now (values .entry)) (now (area .entry)) (now (values .exit)) (now (area .exit)) r ⌝ }
+    ensures { λ r.
+        ⌜ FillsLine (now (text .entry)) at k used (now (values .entry)) (now (area .entry)) (now (values .exit))
+        (now (area .exit)) r ⌝ }
 {
     let byte = text[at];
     if byte == b'\n' {
@@ -333,7 +340,9 @@ fn fill_line(
 // Both tables and the area, from their fronts.
 pub(crate) fn fill_text(text: &[u8], rows: &mut [u64], values: &mut [u64], area: &mut [u8])
     requires { ⌜ HasText (now text) (now rows) (now values) (now area) ⌝ }
-    ensures { λ r. ⌜ FillsText (now (text .entry)) (now (rows .entry)) (now (values .entry)) (now (area .entry)) (now (rows .exit)) (now (values .exit)) (now (area .exit)) ⌝ }
+    ensures { λ r.
+        ⌜ FillsText (now (text .entry)) (now (rows .entry)) (now (values .entry)) (now (area .entry)) (now (rows .exit))
+        (now (values .exit)) (now (area .exit)) ⌝ }
 {
     let mut at = 0;
     let mut row = 0;

@@ -46,4 +46,5 @@ TextFits area rows values (Size n) =
     Sound area rows values
     × (n ≡ length (tablesText area rows values))
     × ((rest : Answer) → decide (checkLines area rows values) rest ≡ rest)
-TextFits area rows values (Refused refusal) = (rest : Answer) → decide (checkLines area rows values) rest ≡ paper refusal
+TextFits area rows values (Refused refusal) =
+    (rest : Answer) → decide (checkLines area rows values) rest ≡ paper refusal

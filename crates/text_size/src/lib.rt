@@ -50,7 +50,8 @@ fn head_size(id: u64, aggregate: u64) -> usize
 }
 
 fn value_size(area: &[u8], id: u64, kind: u64, aggregate: u64, bits: u64, length: u64) -> usize
-    requires { ⌜ (bad (lib.ListN.length (now area)) id kind aggregate bits length ≡ false) × (lib.ListN.length (valueText (now area) id kind aggregate bits length) < 2 ^ 64) ⌝ }
+    requires { ⌜ (bad (lib.ListN.length (now area)) id kind aggregate bits length ≡ false)
+        × (lib.ListN.length (valueText (now area) id kind aggregate bits length) < 2 ^ 64) ⌝ }
     ensures { λ r. ⌜ r ≡ lib.ListN.length (valueText (now (area .entry)) id kind aggregate bits length) ⌝ }
 {
     let start = head_size(id, aggregate);
@@ -67,7 +68,8 @@ fn value_size(area: &[u8], id: u64, kind: u64, aggregate: u64, bits: u64, length
 }
 
 fn entry_size(area: &[u8], values: &[u64], k: usize) -> usize
-    requires { ⌜ (k + entryWords ≤ length (now values)) × (badEntry (length (now area)) (now values) k ≡ false) × (length (entryText (now area) (now values) k) < 2 ^ 64) ⌝ }
+    requires { ⌜ (k + entryWords ≤ length (now values)) × (badEntry (length (now area)) (now values) k ≡ false)
+        × (length (entryText (now area) (now values) k) < 2 ^ 64) ⌝ }
     ensures { λ r. ⌜ r ≡ length (entryText (now (area .entry)) (now (values .entry)) k) ⌝ }
 {
     value_size(
@@ -82,7 +84,9 @@ fn entry_size(area: &[u8], values: &[u64], k: usize) -> usize
 
 // So many values, a byte behind each.
 fn values_size(area: &[u8], values: &[u64], start: usize, count: usize) -> usize
-    requires { ⌜ Good (now area) (now values) × (start % entryWords ≡ 0) × (start + entryWords * count ≤ length (now values)) × (length (valuesText (now area) (now values) count start) < 2 ^ 64) ⌝ }
+    requires { ⌜ Good (now area) (now values) × (start % entryWords ≡ 0)
+        × (start + entryWords * count ≤ length (now values))
+        × (length (valuesText (now area) (now values) count start) < 2 ^ 64) ⌝ }
     ensures { λ r. ⌜ r ≡ length (valuesText (now (area .entry)) (now (values .entry)) count start) ⌝ }
 {
     let mut size: usize = 0;
@@ -98,7 +102,9 @@ fn values_size(area: &[u8], values: &[u64], start: usize, count: usize) -> usize
 
 // One line: that of a null row, an empty one, or the values of a row.
 fn row_size(area: &[u8], values: &[u64], count: u64, k: usize) -> usize
-    requires { ⌜ Good (now area) (now values) × (k % entryWords ≡ 0) × (k + entryWords * valuesIn count ≤ length (now values)) × (length (rowText (rowIn (now area) (now values) count k)) < 2 ^ 64) ⌝ }
+    requires { ⌜ Good (now area) (now values) × (k % entryWords ≡ 0)
+        × (k + entryWords * valuesIn count ≤ length (now values))
+        × (length (rowText (rowIn (now area) (now values) count k)) < 2 ^ 64) ⌝ }
     ensures { λ r. ⌜ r ≡ length (rowText (rowIn (now (area .entry)) (now (values .entry)) count k)) ⌝ }
 {
     if count == NULL_ROW_MARKER {
@@ -111,7 +117,8 @@ fn row_size(area: &[u8], values: &[u64], count: u64, k: usize) -> usize
 }
 
 fn rows_size(area: &[u8], rows: &[u64], values: &[u64]) -> usize
-    requires { ⌜ Good (now area) (now values) × (length (now values) ≡ entryWords * total (now rows)) × (length (rowsText (now area) (now rows) (now values) 0) < 2 ^ 64) ⌝ }
+    requires { ⌜ Good (now area) (now values) × (length (now values) ≡ entryWords * total (now rows))
+        × (length (rowsText (now area) (now rows) (now values) 0) < 2 ^ 64) ⌝ }
     ensures { λ r. ⌜ r ≡ length (rowsText (now (area .entry)) (now (rows .entry)) (now (values .entry)) 0) ⌝ }
 {
     let mut size: usize = 0;

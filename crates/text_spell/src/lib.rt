@@ -1,4 +1,5 @@
-// What single bytes of a rowset's text spell, for its writer and its reader: a type's letter, a blob's byte, a hex digit.
+// What single bytes of a rowset's text spell, for its writer and its reader: a type's letter, a blob's byte, a hex
+// digit.
 ghost use mathlib.Core.Path.{_≡_};
 ghost use Prim.Native.Nat.{_+_, _≤_};
 ghost use Rattle.words.specs.Decide.{pick, _<?_};
@@ -99,8 +100,8 @@ fn spelled(value: u32) -> u32
     48 + value + 39 * ((value + 6) / 16)
 }
 
-// The value of a hex digit whose letters are small, 16 for any other byte. It is computed as if the byte were such a digit, and
-// then held against the byte: the processor sees both tests ahead.
+// The value of a hex digit whose letters are small, 16 for any other byte. It is computed as if the byte were such a
+// digit, and then held against the byte: the processor sees both tests ahead.
 pub fn small_value(byte: u8) -> u32
     ensures { λ r. ⌜ IsSmallValue byte r ⌝ }
 {

@@ -1,5 +1,5 @@
--- The reading of a text from a place and a state on, and what stands behind its pieces: what both walks' laws speak of. Nobody has
--- to believe it. Assumes nothing.
+-- The reading of a text from a place and a state on, and what stands behind its pieces: what both walks' laws speak of.
+-- Nobody has to believe it. Assumes nothing.
 use Prim.Native.Nat.{ℕ, _≤_, _<_}
 use mathlib.Core.Bool.{Bool, true, false, not, _&&_}
 use mathlib.Core.Path.{_≡_}

@@ -1,5 +1,6 @@
--- What a text's rows fill, after document 02, A1: "Reading lays blobs back to back in a lent area". The words of the rows, the
--- entries of their values and the area's bytes, each from the front, as functions of the rows. Assumes nothing.
+-- What a text's rows fill, after document 02, A1: "Reading lays blobs back to back in a lent area". The words of the
+-- rows, the entries of their values and the area's bytes, each from the front, as functions of the rows. Assumes
+-- nothing.
 use Prim.Native.Nat.{ℕ, _+_}
 use mathlib.Core.List.{List, [], _∷_, _++_, map}
 use lib.ListN.{length}
@@ -45,7 +46,8 @@ fifthWord (bytes s) = length s
 unfoldable pub entriesFrom : ℕ → List Cell → List ℕ
 entriesFrom offset [] = []
 entriesFrom offset (c ∷ cells) =
-    c .id ∷ c .type ∷ c .aggregate ∷ fourthWord offset (c .content) ∷ fifthWord (c .content) ∷ entriesFrom (offset + length (blobOf (c .content))) cells
+    c .id ∷ c .type ∷ c .aggregate ∷ fourthWord offset (c .content) ∷ fifthWord (c .content)
+    ∷ entriesFrom (offset + length (blobOf (c .content))) cells
 
 unfoldable pub rowTable : List Row → List ℕ
 rowTable rows = map rowWord rows

@@ -1,5 +1,5 @@
--- What `count_text` promises, by name: how many rows, values and blob bytes a text within the limits has, or what is met first.
--- (The maps of answers promise words' `Tells`.) Assumes nothing.
+-- What `count_text` promises, by name: how many rows, values and blob bytes a text within the limits has, or what is
+-- met first. (The maps of answers promise words' `Tells`.) Assumes nothing.
 use Prim.Native.Nat.{ℕ}
 use mathlib.Core.List.{List, [], _∷_}
 use mathlib.Core.Logic.{_⊎_, inl, inr}

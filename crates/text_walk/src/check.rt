@@ -1,5 +1,5 @@
-// The walk over a text, piece by piece: an id, a head, a scalar's digits, a blob's bytes, a value, the values of a line, a line.
-// Each piece says where the next begins, or what is met first.
+// The walk over a text, piece by piece: an id, a head, a scalar's digits, a blob's bytes, a value, the values of a
+// line, a line. Each piece says where the next begins, or what is met first.
 ghost use mathlib.Core.Path.{_≡_};
 ghost use mathlib.Core.Bool.{true, _||_};
 ghost use Prim.Native.Nat.{_-_, _<_, _≤_};
@@ -147,8 +147,8 @@ fn check_head(text: &[u8], start: usize, first: u64) -> Head
     }
 }
 
-// Whether a digit of this value fits a scalar of which `left` digits are to come, itself counted: a boolean is zeros and then
-// 0 or 1.
+// Whether a digit of this value fits a scalar of which `left` digits are to come, itself counted: a boolean is zeros
+// and then 0 or 1.
 fn digit_fits(kind: u64, left: u32, value: u32) -> bool
     requires { ⌜ 0 < left ⌝ }
     ensures { λ r. ⌜ r ≡ fitsWord kind (left - 1) value ⌝ }
@@ -328,8 +328,8 @@ fn is_low(low: u8) -> bool
     }
 }
 
-// The two digits behind a percent sign, which spell a byte that must be escaped. Most have a high digit that tells so by
-// itself; their value is not wanted here.
+// The two digits behind a percent sign, which spell a byte that must be escaped. Most have a high digit that tells so
+// by itself; their value is not wanted here.
 fn check_escape(text: &[u8], at: usize) -> Step
     requires { ⌜ at ≤ length (now text) ⌝ }
     ensures { λ r. ⌜ EscapeChecks (now (text .entry)) at r ⌝ }
@@ -414,7 +414,8 @@ fn ends_value(byte: u8) -> bool
     byte == b'\n'
 }
 
-// The tab or line feed behind a value of so many blob bytes, with which the rowset has this size: 13 where that is too much.
+// The tab or line feed behind a value of so many blob bytes, with which the rowset has this size: 13 where that is too
+// much.
 fn check_end(text: &[u8], at: usize, length: usize, size: usize) -> Value
     requires { ⌜ at ≤ lib.ListN.length (now text) ⌝ }
     ensures { λ r. ⌜ EndChecks (now (text .entry)) at length size r ⌝ }
@@ -495,10 +496,11 @@ fn too_many(row: usize) -> Line
     }))
 }
 
-// The values of a line whose first byte is a digit, in the row of this number; with the row's word the rowset has the size
-// `before`.
+// The values of a line whose first byte is a digit, in the row of this number; with the row's word the rowset has the
+// size `before`.
 fn check_values(text: &[u8], start: usize, row: usize, before: usize) -> Line
-    requires { ⌜ (start ≤ length (now text)) × (isDigit (getD (now text) start 0) ≡ true) × (row < maxRows) × (before ≤ maxSize) ⌝ }
+    requires { ⌜ (start ≤ length (now text)) × (isDigit (getD (now text) start 0) ≡ true) × (row < maxRows)
+        × (before ≤ maxSize) ⌝ }
     ensures { λ r. ⌜ ValuesCheck (now (text .entry)) start row before r ⌝ }
 {
     let mut at = start;

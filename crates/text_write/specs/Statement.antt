@@ -1,5 +1,5 @@
--- What `write_text` promises, by name. Document 02, A1: "Writing text refuses as the rowset writer does": the lines before the
--- room are those of the rowset's writer. Assumes nothing.
+-- What `write_text` promises, by name. Document 02, A1: "Writing text refuses as the rowset writer does": the lines
+-- before the room are those of the rowset's writer. Assumes nothing.
 use Prim.Native.Nat.{ℕ}
 use mathlib.Core.List.{List, [], _∷_, _++_}
 use lib.ListN.{length}

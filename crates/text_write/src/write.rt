@@ -100,8 +100,11 @@ fn write_value(
     length: u64,
     out: &mut [u8],
 ) -> usize
-    requires { ⌜ (bad (lib.ListN.length (now area)) id kind aggregate bits length ≡ false) × (lib.ListN.length (valueText (now area) id kind aggregate bits length) ≤ lib.ListN.length (now out)) ⌝ }
-    ensures { λ r. ⌜ Puts (valueText (now (area .entry)) id kind aggregate bits length) (now (out .entry)) (now (out .exit)) r ⌝ }
+    requires { ⌜ (bad (lib.ListN.length (now area)) id kind aggregate bits length ≡ false)
+        × (lib.ListN.length (valueText (now area) id kind aggregate bits length) ≤ lib.ListN.length (now out)) ⌝ }
+    ensures { λ r.
+        ⌜ Puts (valueText (now (area .entry)) id kind aggregate bits length) (now (out .entry)) (now (out .exit)) r
+        ⌝ }
 {
     let at = write_head(id, aggregate, letter(kind), out);
     match kind_of(kind) {
@@ -122,8 +125,10 @@ fn write_value(
 
 // The value whose entry begins at the word `k`.
 fn write_entry(area: &[u8], values: &[u64], k: usize, out: &mut [u8]) -> usize
-    requires { ⌜ (k + entryWords ≤ length (now values)) × (badEntry (length (now area)) (now values) k ≡ false) × (length (entryText (now area) (now values) k) ≤ length (now out)) ⌝ }
-    ensures { λ r. ⌜ Puts (entryText (now (area .entry)) (now (values .entry)) k) (now (out .entry)) (now (out .exit)) r ⌝ }
+    requires { ⌜ (k + entryWords ≤ length (now values)) × (badEntry (length (now area)) (now values) k ≡ false)
+        × (length (entryText (now area) (now values) k) ≤ length (now out)) ⌝ }
+    ensures { λ r.
+        ⌜ Puts (entryText (now (area .entry)) (now (values .entry)) k) (now (out .entry)) (now (out .exit)) r ⌝ }
 {
     write_value(
         area,
@@ -138,8 +143,11 @@ fn write_entry(area: &[u8], values: &[u64], k: usize, out: &mut [u8]) -> usize
 
 // So many values, a tab behind each, and behind the last a line feed.
 fn write_values(area: &[u8], values: &[u64], start: usize, count: usize, out: &mut [u8]) -> usize
-    requires { ⌜ Good (now area) (now values) × (start % entryWords ≡ 0) × (start + entryWords * count ≤ length (now values)) × (length (valuesText (now area) (now values) count start) ≤ length (now out)) ⌝ }
-    ensures { λ r. ⌜ Puts (valuesText (now (area .entry)) (now (values .entry)) count start) (now (out .entry)) (now (out .exit)) r ⌝ }
+    requires { ⌜ Good (now area) (now values) × (start % entryWords ≡ 0)
+        × (start + entryWords * count ≤ length (now values))
+        × (length (valuesText (now area) (now values) count start) ≤ length (now out)) ⌝ }
+    ensures { λ r. ⌜ Puts (valuesText (now (area .entry)) (now (values .entry)) count start) (now (out .entry))
+        (now (out .exit)) r ⌝ }
 {
     let mut at = 0;
     let mut k = start;
@@ -156,8 +164,11 @@ fn write_values(area: &[u8], values: &[u64], start: usize, count: usize, out: &m
 
 // One line: that of a null row, an empty one, or the values of a row.
 fn write_row(area: &[u8], values: &[u64], count: u64, k: usize, out: &mut [u8]) -> usize
-    requires { ⌜ Good (now area) (now values) × (k % entryWords ≡ 0) × (k + entryWords * valuesIn count ≤ length (now values)) × (length (rowText (rowIn (now area) (now values) count k)) ≤ length (now out)) ⌝ }
-    ensures { λ r. ⌜ Puts (rowText (rowIn (now (area .entry)) (now (values .entry)) count k)) (now (out .entry)) (now (out .exit)) r ⌝ }
+    requires { ⌜ Good (now area) (now values) × (k % entryWords ≡ 0)
+        × (k + entryWords * valuesIn count ≤ length (now values))
+        × (length (rowText (rowIn (now area) (now values) count k)) ≤ length (now out)) ⌝ }
+    ensures { λ r. ⌜ Puts (rowText (rowIn (now (area .entry)) (now (values .entry)) count k)) (now (out .entry))
+        (now (out .exit)) r ⌝ }
 {
     if count == NULL_ROW_MARKER {
         out[0] = b'#';
@@ -173,8 +184,10 @@ fn write_row(area: &[u8], values: &[u64], count: u64, k: usize, out: &mut [u8]) 
 
 // All rows, each at its own stretch of the output.
 fn write_rows(area: &[u8], rows: &[u64], values: &[u64], out: &mut [u8]) -> usize
-    requires { ⌜ Good (now area) (now values) × (length (now values) ≡ entryWords * total (now rows)) × (length (rowsText (now area) (now rows) (now values) 0) ≤ length (now out)) ⌝ }
-    ensures { λ r. ⌜ Puts (rowsText (now (area .entry)) (now (rows .entry)) (now (values .entry)) 0) (now (out .entry)) (now (out .exit)) r ⌝ }
+    requires { ⌜ Good (now area) (now values) × (length (now values) ≡ entryWords * total (now rows))
+        × (length (rowsText (now area) (now rows) (now values) 0) ≤ length (now out)) ⌝ }
+    ensures { λ r. ⌜ Puts (rowsText (now (area .entry)) (now (rows .entry)) (now (values .entry)) 0) (now (out .entry))
+        (now (out .exit)) r ⌝ }
 {
     let mut at = 0;
     let mut k = 0;
@@ -190,7 +203,8 @@ fn write_rows(area: &[u8], rows: &[u64], values: &[u64], out: &mut [u8]) -> usiz
 
 // Writes the text of the tables' rows over the front of the output; a refusal leaves it as it was.
 pub fn write_text(area: &[u8], rows: &[u64], values: &[u64], out: &mut [u8]) -> Encoded
-    ensures { λ r. ⌜ WritesText (now (area .entry)) (now (rows .entry)) (now (values .entry)) (now (out .entry)) r (now (out .exit)) ⌝ }
+    ensures { λ r. ⌜ WritesText (now (area .entry)) (now (rows .entry)) (now (values .entry)) (now (out .entry)) r
+        (now (out .exit)) ⌝ }
 {
     match text_size(area, rows, values) {
         Measured::Refused(refusal) => Encoded::Refused(refusal),

@@ -29,7 +29,8 @@ refusalTells n ceiling code values =
     ∷ code =? 8 ⇒ refusing code (lengthName n (getD values 1 0)) 0 (getD values 0 0) (number (getD values 1 0))
     ∷ code =? 6 ⇒ refusing code "variable-checksum" (variableSumPlace n) (getD values 0 0) (number (getD values 1 0))
     ∷ code =? 4 ⇒ refusing code "part-size" (sizePlace (getD values 0 0)) (getD values 1 0) (number largestPart)
-    ∷ code =? 7 ⇒ refusing code "part-checksum" (sumPlace n (getD values 0 0)) (getD values 1 0) (number (getD values 2 0))
+    ∷ code =? 7 ⇒ refusing code "part-checksum" (sumPlace n (getD values 0 0)) (getD values 1 0)
+    (number (getD values 2 0))
     ∷ [])
     fine
 
@@ -65,4 +66,5 @@ abbrev pub Waits : List ℕ → ℕ → Mode → ℕ → Type 0
 Waits s n mode ceiling =
     (n ≡ count s)
     × ((table : List ℕ) → (length s <? fixedHeaderSize) ≡ false
-    → answerTo s n (within s mode ceiling table) ≡ refuse 8 (pick (length s <? headers n) (headers n) (whole s n) ∷ length s ∷ []))
+    → answerTo s n (within s mode ceiling table)
+    ≡ refuse 8 (pick (length s <? headers n) (headers n) (whole s n) ∷ length s ∷ []))

@@ -85,7 +85,8 @@ FoundInPacket s (breaking name offset value wanted) = ⊥
 abbrev pub FoundInRowset : List ℕ → Saying → Type 0
 FoundInRowset s fine = Unit {0}
 FoundInRowset s (waiting name n) = ⊥
-FoundInRowset s (refusing code name offset value wanted) = value ≡ pick (counts code) (length s - offset) (rowsetValue s name offset)
+FoundInRowset s (refusing code name offset value wanted) =
+    value ≡ pick (counts code) (length s - offset) (rowsetValue s name offset)
 FoundInRowset s (breaking name offset value wanted) = value ≡ rowsetValue s name offset
 
 -- a refusal's number, and 0 where there is none
@@ -103,7 +104,8 @@ numberIn (refused code values consumed) = code
 -- The order of a packet's checks is the reader's own, which asks for room in a table behind them.
 abbrev pub OnePacketOrder : Type 0
 OnePacketOrder =
-    (s : List ℕ) (n : ℕ) (limits : Limits) → order s n limits ≡ checks s n (limits .mode) (limits .bytes) (limits .parts) ++ roomLines n (limits .room)
+    (s : List ℕ) (n : ℕ) (limits : Limits)
+    → order s n limits ≡ checks s n (limits .mode) (limits .bytes) (limits .parts) ++ roomLines n (limits .room)
 
 -- So is that of a rowset's, and behind it stand the lines of the plain form.
 abbrev pub OneRowsetOrder : Type 0
@@ -140,9 +142,11 @@ WhyAgreesWithTheReader =
 -- The number told of a rowset is the reader's, and 0 where it accepts.
 abbrev pub WhyTellsTheNumber : Type 0
 WhyTellsTheNumber =
-    (s : List ℕ) (r : Finding) → ExplainsRowset s r → numberTold (meaning r) ≡ numberIn (decide (answers (inputLines s)) (accepted 0 []))
+    (s : List ℕ) (r : Finding) → ExplainsRowset s r
+    → numberTold (meaning r) ≡ numberIn (decide (answers (inputLines s)) (accepted 0 []))
 
 -- `ok` exactly for a rowset in the plain form, among those that are not too large for it.
 abbrev pub WhyFineIsPlain : Type 0
 WhyFineIsPlain =
-    (s : List ℕ) (r : Finding) → ExplainsRowset s r → length s ≤ maxSize → (r ≡ Fine → plain s ≡ true) × (plain s ≡ true → r ≡ Fine)
+    (s : List ℕ) (r : Finding) → ExplainsRowset s r → length s ≤ maxSize → (r ≡ Fine → plain s ≡ true)
+    × (plain s ≡ true → r ≡ Fine)

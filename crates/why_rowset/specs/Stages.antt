@@ -38,7 +38,8 @@ firstly (breaking field offset value wanted) rest = breaking field offset value 
 
 -- what was kept before, else what these lines tell first, is kept afterwards
 abbrev pub Keeps : List (Line Told) → Finding → Finding → Type 0
-Keeps lines before after = (rest : Told) → firstly (meaning after) (saying rest) ≡ firstly (meaning before) (saying (decide lines rest))
+Keeps lines before after =
+    (rest : Told) → firstly (meaning after) (saying rest) ≡ firstly (meaning before) (saying (decide lines rest))
 
 -- r is what these lines tell first
 abbrev pub Finds : List (Line Told) → Finding → Type 0
@@ -70,7 +71,8 @@ Asks s at size =
 
 -- the checks of the value at `at`
 abbrev pub Checks : List ℕ → ℕ → Checked → Type 0
-Checks s at (Checked.Passed header next) = (header ≡ headerAt s at) × (next ≡ nextValue s at) × (next ≤ length s) × Quiet (valueLines s at)
+Checks s at (Checked.Passed header next) =
+    (header ≡ headerAt s at) × (next ≡ nextValue s at) × (next ≤ length s) × Quiet (valueLines s at)
 Checks s at (Checked.Found finding) = Tell (valueLines s at) finding
 
 -- a stretch of the walk: its checks, the plain form's lines, and where it ends

@@ -48,7 +48,8 @@ fn padding(input: &[u8], start: usize, count: usize) -> Finding
 
 // The length word of a value that is no blob, and a boolean's word.
 fn words(input: &[u8], at: usize, header: Header) -> Finding
-    requires { ⌜ (header ≡ headerAt (now input) at) × (blob (typeAt (now input) at) ≡ false) × (at + 8 ≤ length (now input)) ⌝ }
+    requires { ⌜ (header ≡ headerAt (now input) at) × (blob (typeAt (now input) at) ≡ false)
+        × (at + 8 ≤ length (now input)) ⌝ }
     ensures { λ r. ⌜ FindsWords (now (input .entry)) at r ⌝ }
 {
     if header.length != 0 {

@@ -74,7 +74,8 @@ pub(crate) fn short(field: Field, offset: usize, there: usize, wanted: usize) ->
 
 // The payload of so many bytes: it is there, or 9.
 fn check_bytes(input: &[u8], at: usize, header: Header, field: Field, size: usize) -> Checked
-    requires { ⌜ (at + 8 ≤ length (now input)) × (header ≡ headerAt (now input) at) × Asks (now input) at size × (nameOf field ≡ payloadName (typeAt (now input) at)) ⌝ }
+    requires { ⌜ (at + 8 ≤ length (now input)) × (header ≡ headerAt (now input) at) × Asks (now input) at size
+        × (nameOf field ≡ payloadName (typeAt (now input) at)) ⌝ }
     ensures { λ r. ⌜ Checks (now (input .entry)) at r ⌝ }
 {
     let there = input.len() - (at + WORD_SIZE);

@@ -23,7 +23,8 @@ written ws given = decide (roomLine Output lineRoom given ∷ []) (accepted (len
 
 -- writing this text answers r, and the buffer that held `before` holds it over its front
 abbrev pub Writes : List ℕ → List ℕ → Line → List ℕ → Type 0
-Writes ws before r after = Means paper (written ws (length before)) r × Holds (written ws (length before)) ws before after
+Writes ws before r after =
+    Means paper (written ws (length before)) r × Holds (written ws (length before)) ws before after
 
 abbrev pub WritesLine : Finding → List ℕ → Line → List ℕ → Type 0
 WritesLine finding before r after = Writes (lineOf (meaning finding)) before r after

@@ -37,7 +37,8 @@ fn put_field(out: &mut [u8], at: usize, number: u64, after: u8) -> usize
 // A field's name, and a space behind it.
 fn put_name(out: &mut [u8], at: usize, field: Field) -> usize
     requires { ⌜ at + 18 ≤ length (now out) ⌝ }
-    ensures { λ r. ⌜ Wrote (text (nameOf field) ++ 32 ∷ []) at (now (out .entry)) r (now (out .exit)) × (r ≤ at + 18) ⌝ }
+    ensures { λ r. ⌜ Wrote (text (nameOf field) ++ 32 ∷ []) at (now (out .entry)) r (now (out .exit)) × (r ≤ at + 18) ⌝
+        }
 {
     let last = at + write_name(&mut out[at..], field);
     out[last] = b' ';
@@ -66,7 +67,9 @@ fn put_place(
     wanted: Wanted,
 ) -> usize
     requires { ⌜ at + 81 ≤ length (now out) ⌝ }
-    ensures { λ r. ⌜ Wrote (placeText (nameOf field) offset found (wantedOf wanted)) at (now (out .entry)) r (now (out .exit)) ⌝ }
+    ensures { λ r.
+        ⌜ Wrote (placeText (nameOf field) offset found (wantedOf wanted)) at (now (out .entry)) r (now (out .exit))
+        ⌝ }
 {
     let offset_at = put_name(out, at, field);
     let found_at = put_field(out, offset_at, offset, b' ');
@@ -92,7 +95,9 @@ fn put_refused(
     wanted: Wanted,
 ) -> usize
     requires { ⌜ lineRoom ≤ length (now out) ⌝ }
-    ensures { λ r. ⌜ Wrote (lineOf (refusing number (nameOf field) offset found (wantedOf wanted))) 0 (now (out .entry)) r (now (out .exit)) ⌝ }
+    ensures { λ r.
+        ⌜ Wrote (lineOf (refusing number (nameOf field) offset found (wantedOf wanted))) 0 (now (out .entry)) r
+        (now (out .exit)) ⌝ }
 {
     let number_at = put_bytes(out, 0, b"refused ");
     let place_at = put_field(out, number_at, number, b' ');
@@ -101,7 +106,8 @@ fn put_refused(
 
 fn put_not_plain(out: &mut [u8], field: Field, offset: u64, found: u64, wanted: Wanted) -> usize
     requires { ⌜ lineRoom ≤ length (now out) ⌝ }
-    ensures { λ r. ⌜ Wrote (lineOf (breaking (nameOf field) offset found (wantedOf wanted))) 0 (now (out .entry)) r (now (out .exit)) ⌝ }
+    ensures { λ r. ⌜ Wrote (lineOf (breaking (nameOf field) offset found (wantedOf wanted))) 0 (now (out .entry)) r
+        (now (out .exit)) ⌝ }
 {
     let place_at = put_bytes(out, 0, b"not-plain ");
     put_place(out, place_at, field, offset, found, wanted)

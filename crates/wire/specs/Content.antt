@@ -1,6 +1,6 @@
--- The content of a rowset's rows: each row null, or its values; each value its id, type, aggregate flag, and nothing, a word or
--- bytes. It is read off an input by places, and off lent tables over a byte area; offsets are no part of it. A rowset's bytes are
--- a function of it. Assumes nothing.
+-- The content of a rowset's rows: each row null, or its values; each value its id, type, aggregate flag, and nothing, a
+-- word or bytes. It is read off an input by places, and off lent tables over a byte area; offsets are no part of it. A
+-- rowset's bytes are a function of it. Assumes nothing.
 use Prim.Native.Nat.{ℕ, zero, suc, _+_, _*_, _^_, _<_, _≤_}
 use mathlib.Core.Path.{_≡_}
 use mathlib.Core.Bool.{true}
@@ -37,7 +37,8 @@ contentAt s at =
     (pick (scalar (typeAt s at)) (word (bitsOf (typeAt s at) (scalarAt s at))) nothing)
 
 abbrev pub cellAt : List ℕ → ℕ → Cell
-cellAt s at = record { id = idAt s at; type = typeAt s at; aggregate = flag (aggregateAt s at); content = contentAt s at }
+cellAt s at =
+    record { id = idAt s at; type = typeAt s at; aggregate = flag (aggregateAt s at); content = contentAt s at }
 
 -- n values from `at` on
 unfoldable pub cellsAt : List ℕ → ℕ → ℕ → List Cell
@@ -80,7 +81,8 @@ rowIn area table count k = pick (count =? nullMark) null (values (cellsIn area t
 
 unfoldable pub rowsFrom : List ℕ → List ℕ → List ℕ → ℕ → List Row
 rowsFrom area [] table k = []
-rowsFrom area (count ∷ rows) table k = rowIn area table count k ∷ rowsFrom area rows table (k + entryWords * valuesIn count)
+rowsFrom area (count ∷ rows) table k =
+    rowIn area table count k ∷ rowsFrom area rows table (k + entryWords * valuesIn count)
 
 abbrev pub rowsIn : List ℕ → List ℕ → List ℕ → List Row
 rowsIn area rows table = rowsFrom area rows table 0
@@ -102,7 +104,8 @@ contentBytes (bytes b) = b ++ replicate (padding (length b)) 0
 abbrev pub cellBytes : Cell → List ℕ
 cellBytes c =
     bytesOf 2 (c .id)
-    ++ (bytesOf 1 (c .type) ++ (bytesOf 1 (c .aggregate) ++ (bytesOf 4 (lengthWord (c .content)) ++ contentBytes (c .content))))
+    ++ (bytesOf 1 (c .type)
+    ++ (bytesOf 1 (c .aggregate) ++ (bytesOf 4 (lengthWord (c .content)) ++ contentBytes (c .content))))
 
 unfoldable pub cellsBytes : List Cell → List ℕ
 cellsBytes [] = []

@@ -1,5 +1,5 @@
--- The kinds that the types of values fall into. Document 01: "Null has no payload, 3 to 6 one 8-byte word, 16 to 18 the bytes and
--- padding". Assumes nothing.
+-- The kinds that the types of values fall into. Document 01: "Null has no payload, 3 to 6 one 8-byte word, 16 to 18 the
+-- bytes and padding". Assumes nothing.
 use Prim.Native.Nat.{ℕ}
 use mathlib.Core.List.{[], _∷_}
 use Rattle.words.specs.Decide.{_⇒_, decide, _=?_}

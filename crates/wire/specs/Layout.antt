@@ -1,5 +1,5 @@
--- A rowset on the wire, after document 01, "Rowsets" and "Lent tables". First what stands where in the read bytes, then the
--- bytes themselves as one function of the lent tables' entries, which the writer produces. Assumes nothing.
+-- A rowset on the wire, after document 01, "Rowsets" and "Lent tables". First what stands where in the read bytes, then
+-- the bytes themselves as one function of the lent tables' entries, which the writer produces. Assumes nothing.
 use Prim.Native.Nat.{ℕ, zero, suc, _+_, _-_, _*_, _%_}
 use mathlib.Core.Bool.{Bool, _&&_, _||_}
 use mathlib.Core.List.{List, [], _∷_, _++_}
@@ -85,8 +85,8 @@ valuesIn count = pick (count =? nullMark) 0 count
 abbrev pub flag : ℕ → ℕ
 flag n = pick (n =? 0) 0 1
 
--- The value at `at` of s: its header's fields, where its payload begins, the five words of its entry in a lent table, and
--- where the next begins
+-- The value at `at` of s: its header's fields, where its payload begins, the five words of its entry in a lent table,
+-- and where the next begins
 
 abbrev pub idAt : List ℕ → ℕ → ℕ
 idAt s at = word 2 s at
@@ -179,7 +179,8 @@ valueBytes area id type aggregate bits n =
 -- the value whose entry begins at the word k of the table
 abbrev pub entryBytes : List ℕ → List ℕ → ℕ → List ℕ
 entryBytes area values k =
-    valueBytes area (getD values k 0) (getD values (k + 1) 0) (getD values (k + 2) 0) (getD values (k + 3) 0) (getD values (k + 4) 0)
+    valueBytes area (getD values k 0) (getD values (k + 1) 0) (getD values (k + 2) 0) (getD values (k + 3) 0)
+    (getD values (k + 4) 0)
 
 -- n values from the word k of the table on
 unfoldable pub valuesBytes : List ℕ → List ℕ → ℕ → ℕ → List ℕ
@@ -192,7 +193,8 @@ rowBytes area values count k = bytesOf 8 count ++ valuesBytes area values (value
 
 unfoldable pub rowsBytes : List ℕ → List ℕ → List ℕ → ℕ → List ℕ
 rowsBytes area [] values k = []
-rowsBytes area (count ∷ rows) values k = rowBytes area values count k ++ rowsBytes area rows values (k + entryWords * valuesIn count)
+rowsBytes area (count ∷ rows) values k =
+    rowBytes area values count k ++ rowsBytes area rows values (k + entryWords * valuesIn count)
 
 -- the row count, then the rows
 unfoldable pub rowsetBytes : List ℕ → List ℕ → List ℕ → List ℕ

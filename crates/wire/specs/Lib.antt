@@ -1,5 +1,5 @@
--- What a rowset is: kinds of values, layout, the content of rows and its bytes, document 01's numbers for refusals, and the
--- statements of this crate's functions.
+-- What a rowset is: kinds of values, layout, the content of rows and its bytes, document 01's numbers for refusals, and
+-- the statements of this crate's functions.
 pub mod Layout
 pub mod Kind
 pub mod Content

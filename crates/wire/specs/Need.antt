@@ -1,5 +1,5 @@
--- A read of n bytes at an offset. Document 01: each read that lacks bytes gives 9 with its offset and shortage; where the start
--- lies past the end, 9 carries that start and all n. Assumes nothing.
+-- A read of n bytes at an offset. Document 01: each read that lacks bytes gives 9 with its offset and shortage; where
+-- the start lies past the end, 9 carries that start and all n. Assumes nothing.
 use Prim.Native.Nat.{ℕ, _-_}
 use Prim.Native.String.{String}
 use mathlib.Core.Bool.{Bool}

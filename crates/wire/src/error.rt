@@ -1,5 +1,5 @@
-// What went wrong with a rowset, after the Rust's `WireError`, with document 01's 17 and 18. The Rust's `AllocationFailed` has no
-// counterpart: nothing is allocated.
+// What went wrong with a rowset, after the Rust's `WireError`, with document 01's 17 and 18. The Rust's
+// `AllocationFailed` has no counterpart: nothing is allocated.
 ghost use Rattle.words.specs.Paper.{Tells};
 ghost use Rattle.wire.specs.Paper.{paper};
 use words::outcome::NoRoom;

@@ -1,5 +1,5 @@
--- What the private stages hand on, and what the writer goes by: nobody has to believe it. (proofs/LinesLaws.antt: the walks
--- decide as the lines do.) Assumes nothing.
+-- What the private stages hand on, and what the writer goes by: nobody has to believe it. (proofs/LinesLaws.antt: the
+-- walks decide as the lines do.) Assumes nothing.
 use Prim.Native.Nat.{ℕ, zero, suc, _+_, _*_, _%_, _≤_}
 use mathlib.Core.Path.{_≡_}
 use mathlib.Core.Bool.{false}
@@ -17,7 +17,8 @@ use Rattle.wire_check.specs.declared.size.Measured.the-variants.{Size, R
 
 -- no entry is bad, wherever in the table it begins
 abbrev pub Good : List ℕ → List ℕ → Type 0
-Good area values = (k : ℕ) → k % entryWords ≡ 0 → k + entryWords ≤ length values → badEntry (length area) values k ≡ false
+Good area values =
+    (k : ℕ) → k % entryWords ≡ 0 → k + entryWords ≤ length values → badEntry (length area) values k ≡ false
 
 -- tables whose rows have as many values as there are entries, none of them bad
 pub record Sound (area rows values : List ℕ) : Type 0 where
@@ -54,8 +55,10 @@ fitting area rows values rest =
 -- Between the stages: where the checks of a walk pass, what follows them decides, else the refusal, whatever follows
 
 abbrev pub ChecksTables : List ℕ → List ℕ → List ℕ → Verdict → Type 0
-ChecksTables area rows values Passed = Sound area rows values × ((rest : Answer) → decide (tableOrder area rows values) rest ≡ rest)
-ChecksTables area rows values (Failed refusal) = (rest : Answer) → decide (tableOrder area rows values) rest ≡ paper refusal
+ChecksTables area rows values Passed =
+    Sound area rows values × ((rest : Answer) → decide (tableOrder area rows values) rest ≡ rest)
+ChecksTables area rows values (Failed refusal) =
+    (rest : Answer) → decide (tableOrder area rows values) rest ≡ paper refusal
 
 -- a walk that ends at this size
 abbrev pub Follows : (Answer → Answer) → ℕ → Measured → Type 0
@@ -68,5 +71,6 @@ Adds size more r = Follows (decide (tooLarge (size + more) ∷ [])) (size + more
 
 -- and what the writer goes by: where the checks pass, the tables are sound
 abbrev pub Fits : List ℕ → List ℕ → List ℕ → Measured → Type 0
-Fits area rows values (Size n) = Sound area rows values × Follows (fitting area rows values) (rowsetSize rows values) (Size n)
+Fits area rows values (Size n) =
+    Sound area rows values × Follows (fitting area rows values) (rowsetSize rows values) (Size n)
 Fits area rows values (Refused refusal) = Follows (fitting area rows values) (rowsetSize rows values) (Refused refusal)

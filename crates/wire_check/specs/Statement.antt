@@ -1,5 +1,5 @@
--- What `encoded_size` and `first_bad` promise, by name. (The map of answers promises words' `Tells` of `paperMeasured`.)
--- Assumes nothing.
+-- What `encoded_size` and `first_bad` promise, by name. (The map of answers promises words' `Tells` of
+-- `paperMeasured`.) Assumes nothing.
 use Prim.Native.Nat.{ℕ}
 use mathlib.Core.List.{List}
 use mathlib.Core.Path.{_≡_}

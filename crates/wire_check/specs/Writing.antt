@@ -1,6 +1,6 @@
--- The order in which a rowset is written from lent tables over a byte area, after document 01: 18; 10; then row by row 13 for its
--- word, 11, and value by value 12, 13; then 17. The order is one list of lines,
--- in named pieces, 18 apart from the limits. Assumes nothing.
+-- The order in which a rowset is written from lent tables over a byte area, after document 01: 18; 10; then row by row
+-- 13 for its word, 11, and value by value 12, 13; then 17. The order is one list of lines, in named pieces, 18 apart
+-- from the limits. Assumes nothing.
 use Prim.Native.Nat.{ℕ, zero, suc, _+_, _*_, _/_, _%_}
 use mathlib.Core.Bool.{Bool, _&&_, _||_, not}
 use mathlib.Core.List.{List, [], _∷_, _++_}
@@ -40,8 +40,8 @@ unfoldable pub total : List ℕ → ℕ
 total [] = 0
 total (count ∷ rows) = valuesIn count + total rows
 
--- a value's words that cannot be written from an area of so many bytes: id above 65,535, unknown type, aggregate or boolean above 1,
--- a word that should be 0 (a Null's bits, the length of what is no blob), a stretch outside the area
+-- a value's words that cannot be written from an area of so many bytes: id above 65,535, unknown type, aggregate or
+-- boolean above 1, a word that should be 0 (a Null's bits, the length of what is no blob), a stretch outside the area
 unfoldable pub bad : ℕ → ℕ → ℕ → ℕ → ℕ → ℕ → Bool
 bad size id type aggregate bits n =
     65_535 <? id
@@ -53,7 +53,8 @@ bad size id type aggregate bits n =
     || (blob type && size <? (bits + n))
 
 abbrev pub badEntry : ℕ → List ℕ → ℕ → Bool
-badEntry size values k = bad size (idIn values k) (typeIn values k) (aggregateIn values k) (bitsIn values k) (lengthIn values k)
+badEntry size values k =
+    bad size (idIn values k) (typeIn values k) (aggregateIn values k) (bitsIn values k) (lengthIn values k)
 
 -- the first bad entry, else the number of entries
 unfoldable pub firstBad : ℕ → List ℕ → ℕ
@@ -122,7 +123,8 @@ valueOrder type n size =
 unfoldable pub valuesLimits : List ℕ → ℕ → ℕ → ℕ → List (Line Answer)
 valuesLimits values zero k size = []
 valuesLimits values (suc n) k size =
-    valueOrder (typeIn values k) (lengthIn values k) size ++ valuesLimits values n (k + entryWords) (size + valueSize values k)
+    valueOrder (typeIn values k) (lengthIn values k) size
+    ++ valuesLimits values n (k + entryWords) (size + valueSize values k)
 
 -- the word of the row number i: 13, then 11
 unfoldable pub countOrder : ℕ → ℕ → ℕ → List (Line Answer)

@@ -75,7 +75,8 @@ fn measure_value(kind: u64, length: u64, size: usize) -> Measured
 // So many values, each with its 12 and 13.
 fn measure_values(values: &[u64], start: usize, count: usize, before: usize) -> Measured
     requires { ⌜ (start + entryWords * count ≤ length (now values)) × (before ≤ maxSize) ⌝ }
-    ensures { λ r. ⌜ Follows (fitValues (now (values .entry)) count start before) (before + valuesSize (now (values .entry)) count start) r ⌝ }
+    ensures { λ r. ⌜ Follows (fitValues (now (values .entry)) count start before)
+        (before + valuesSize (now (values .entry)) count start) r ⌝ }
 {
     let mut size = before;
     let mut k = start;
@@ -98,7 +99,8 @@ fn measure_values(values: &[u64], start: usize, count: usize, before: usize) -> 
 // 13 for the row's word, 11, then its values.
 fn measure_row(values: &[u64], count: u64, row: usize, k: usize, before: usize) -> Measured
     requires { ⌜ (k + entryWords * valuesIn count ≤ length (now values)) × (before ≤ maxSize) ⌝ }
-    ensures { λ r. ⌜ Follows (fitRow (now (values .entry)) count row k before) (before + rowSize (now (values .entry)) count k) r ⌝ }
+    ensures { λ r. ⌜ Follows (fitRow (now (values .entry)) count row k before)
+        (before + rowSize (now (values .entry)) count k) r ⌝ }
 {
     match add_to_rowset_size(before, 8) {
         Measured::Refused(refusal) => Measured::Refused(refusal),
@@ -115,7 +117,8 @@ fn measure_row(values: &[u64], count: u64, row: usize, k: usize, before: usize) 
 // All rows, behind the row count.
 fn measure_rows(rows: &[u64], values: &[u64]) -> Measured
     requires { ⌜ length (now values) ≡ entryWords * total (now rows) ⌝ }
-    ensures { λ r. ⌜ Follows (fitRows (now (rows .entry)) (now (values .entry)) 0 0 8) (rowsetSize (now (rows .entry)) (now (values .entry))) r ⌝ }
+    ensures { λ r. ⌜ Follows (fitRows (now (rows .entry)) (now (values .entry)) 0 0 8)
+        (rowsetSize (now (rows .entry)) (now (values .entry))) r ⌝ }
 {
     let mut size = 8;
     let mut k = 0;

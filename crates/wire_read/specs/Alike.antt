@@ -1,6 +1,7 @@
--- Two inputs that differ only where reading does not look, after document 01: "any non-zero aggregate byte or boolean word is true;
--- padding and the length words of types 2 to 6 are ignored, so two inputs that differ only there read alike". Nothing is said of
--- padding, of a length word but a blob's, or of which non-zero number a flag is. Assumes nothing.
+-- Two inputs that differ only where reading does not look, after document 01: "any non-zero aggregate byte or boolean
+-- word is true; padding and the length words of types 2 to 6 are ignored, so two inputs that differ only there read
+-- alike". Nothing is said of padding, of a length word but a blob's, or of which non-zero number a flag is. Assumes
+-- nothing.
 use Prim.Native.Nat.{ℕ, zero, suc, _+_}
 use mathlib.Core.Path.{_≡_}
 use mathlib.Core.Bool.{true}
@@ -13,7 +14,8 @@ pub record AlikeValue (s t : List ℕ) (at : ℕ) : Type 0 where
   pub type : typeAt s at ≡ typeAt t at
   pub aggregate : flag (aggregateAt s at) ≡ flag (aggregateAt t at)
   pub blob-length : blob (typeAt s at) ≡ true → lengthAt s at ≡ lengthAt t at
-  pub scalar-bits : scalar (typeAt s at) ≡ true → bitsOf (typeAt s at) (scalarAt s at) ≡ bitsOf (typeAt s at) (scalarAt t at)
+  pub scalar-bits : scalar (typeAt s at) ≡ true
+      → bitsOf (typeAt s at) (scalarAt s at) ≡ bitsOf (typeAt s at) (scalarAt t at)
 
 abbrev pub AlikeValues : List ℕ → List ℕ → ℕ → ℕ → Type 0
 AlikeValues s t zero at = Unit {0}

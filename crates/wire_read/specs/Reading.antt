@@ -1,7 +1,7 @@
--- The order in which a rowset is read, after document 01: front to back, each read that lacks bytes 9 with its offset and shortage;
--- after the row count 10, after a value count 11, a value's checks in their order; at the end 15, then 17, rows before values.
--- The order is one list of lines, in named pieces, each line with what it tells a person; it is laid out only as far as it is
--- looked at. Assumes nothing.
+-- The order in which a rowset is read, after document 01: front to back, each read that lacks bytes 9 with its offset
+-- and shortage; after the row count 10, after a value count 11, a value's checks in their order; at the end 15, then
+-- 17, rows before values. The order is one list of lines, in named pieces, each line with what it tells a person; it is
+-- laid out only as far as it is looked at. Assumes nothing.
 use Prim.Native.Nat.{ℕ, zero, suc, _+_, _-_, _/_}
 use mathlib.Core.Bool.{_&&_}
 use mathlib.Core.List.{List, [], _∷_, _++_}
@@ -74,7 +74,7 @@ roomLines s rows values =
 unfoldable pub readingLines : List ℕ → ℕ → ℕ → List (Line Told)
 readingLines s rows values = inputLines s ++ roomLines s rows (values / entryWords)
 
--- What reading s into such tables answers: how many rows and values there are. No bytes are counted, a rowset being its whole
--- input.
+-- What reading s into such tables answers: how many rows and values there are. No bytes are counted, a rowset being its
+-- whole input.
 unfoldable pub reading : List ℕ → ℕ → ℕ → Answer
 reading s rows values = decide (answers (readingLines s rows values)) (accepted 0 (countAt s 0 ∷ valuesOf s ∷ []))

@@ -1,5 +1,6 @@
--- What the private stages hand on: nobody has to believe it. The order of reading as walks, each given what follows where none of
--- its checks holds; and where a walk comes to. (proofs/ReadingLaws.antt: the walks decide as the lines do.) Assumes nothing.
+-- What the private stages hand on: nobody has to believe it. The order of reading as walks, each given what follows
+-- where none of its checks holds; and where a walk comes to. (proofs/ReadingLaws.antt: the walks decide as the lines
+-- do.) Assumes nothing.
 use Prim.Native.Nat.{ℕ, zero, suc, _+_, _≤_}
 use mathlib.Core.Path.{_≡_}
 use mathlib.Core.Bool.{Bool, true, false}
@@ -51,10 +52,11 @@ readRowset s rest =
 unfoldable pub roomOrder : List ℕ → ℕ → ℕ → List (Line Answer)
 roomOrder s rows values = answers (roomLines s rows values)
 
--- Where none of a stage's checks holds, what follows decides, and the stage ends at `next` within the input, having passed so many
--- values; else the refusal, whatever follows.
+-- Where none of a stage's checks holds, what follows decides, and the stage ends at `next` within the input, having
+-- passed so many values; else the refusal, whatever follows.
 abbrev pub Walk : List ℕ → (Answer → Answer) → ℕ → ℕ → Walked → Type 0
-Walk s reads next values (At at n) = (at ≡ next) × (n ≡ values) × (at ≤ length s) × ((rest : Answer) → reads rest ≡ rest)
+Walk s reads next values (At at n) =
+    (at ≡ next) × (n ≡ values) × (at ≤ length s) × ((rest : Answer) → reads rest ≡ rest)
 Walk s reads next values (Stopped refusal) = (rest : Answer) → reads rest ≡ paper refusal
 
 abbrev pub WalksValues : List ℕ → ℕ → ℕ → Walked → Type 0

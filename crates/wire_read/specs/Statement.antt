@@ -1,5 +1,5 @@
--- What each public function promises, by name, over the inputs, the result and the lent tables at entry and at exit. (The map of
--- answers promises words' `Tells` of `paperDecoded`.) Assumes nothing.
+-- What each public function promises, by name, over the inputs, the result and the lent tables at entry and at exit.
+-- (The map of answers promises words' `Tells` of `paperDecoded`.) Assumes nothing.
 use Prim.Native.Nat.{ℕ}
 use mathlib.Core.Path.{_≡_}
 use mathlib.Core.Bool.{Bool}

@@ -1,4 +1,5 @@
-// The second walk: the tables are filled. The first walk has shown that the rowset lies within the input, so nothing is checked.
+// The second walk: the tables are filled. The first walk has shown that the rowset lies within the input, so nothing is
+// checked.
 ghost use mathlib.Core.Path.{_≡_};
 ghost use Prim.Native.Nat.{_≤_, _+_, _*_};
 ghost use mathlib.Core.List.{[]};
@@ -28,7 +29,8 @@ pub(crate) struct Payload {
 // What stands behind a header that was checked.
 pub(crate) fn read_payload(input: &[u8], at: usize, header: Header) -> Payload
     requires { ⌜ (nextValue (now input) at ≤ length (now input)) × (header ≡ headerAt (now input) at) ⌝ }
-    ensures { λ r. ⌜ (r .fourth ≡ fourth (now (input .entry)) at) × (r .fifth ≡ fifth (now (input .entry)) at) × (r .next ≡ nextValue (now (input .entry)) at) ⌝ }
+    ensures { λ r. ⌜ (r .fourth ≡ fourth (now (input .entry)) at) × (r .fifth ≡ fifth (now (input .entry)) at)
+        × (r .next ≡ nextValue (now (input .entry)) at) ⌝ }
 {
     match kind_of(header.kind as u64) {
         Kind::Null => Payload {
@@ -60,7 +62,8 @@ pub(crate) fn read_payload(input: &[u8], at: usize, header: Header) -> Payload
 // The entry of the value at `at`, to the word `k` of the table on. Answers where the next value begins.
 fn fill_value(input: &[u8], at: usize, values: &mut [u64], k: usize) -> usize
     requires { ⌜ (nextValue (now input) at ≤ length (now input)) × (k + entryWords ≤ length (now values)) ⌝ }
-    ensures { λ r. ⌜ (r ≡ nextValue (now (input .entry)) at) × (now (values .exit) ≡ sets (now (values .entry)) k (entry (now (input .entry)) at [])) ⌝ }
+    ensures { λ r. ⌜ (r ≡ nextValue (now (input .entry)) at)
+        × (now (values .exit) ≡ sets (now (values .entry)) k (entry (now (input .entry)) at [])) ⌝ }
 {
     let header = read_header(input, at);
     let payload = read_payload(input, at, header);
@@ -74,8 +77,10 @@ fn fill_value(input: &[u8], at: usize, values: &mut [u64], k: usize) -> usize
 
 // The entries of so many values, to the word `first` of the table on.
 fn fill_values(input: &[u8], count: u64, start: usize, values: &mut [u64], first: usize) -> usize
-    requires { ⌜ (nextValues (now input) count start ≤ length (now input)) × (first + entryWords * count ≤ length (now values)) ⌝ }
-    ensures { λ r. ⌜ (r ≡ nextValues (now (input .entry)) count start) × (now (values .exit) ≡ sets (now (values .entry)) first (entries (now (input .entry)) count start)) ⌝ }
+    requires { ⌜ (nextValues (now input) count start ≤ length (now input))
+        × (first + entryWords * count ≤ length (now values)) ⌝ }
+    ensures { λ r. ⌜ (r ≡ nextValues (now (input .entry)) count start)
+        × (now (values .exit) ≡ sets (now (values .entry)) first (entries (now (input .entry)) count start)) ⌝ }
 {
     let mut left = count;
     let mut at = start;
@@ -90,8 +95,10 @@ fn fill_values(input: &[u8], count: u64, start: usize, values: &mut [u64], first
 
 // Both tables, from their fronts.
 pub(crate) fn fill_rows(input: &[u8], count: usize, rows: &mut [u64], values: &mut [u64])
-    requires { ⌜ (nextRows (now input) count 8 ≤ length (now input)) × (count ≤ length (now rows)) × (entryWords * valueCount (now input) count 8 ≤ length (now values)) ⌝ }
-    ensures { λ r. ⌜ (now (rows .exit) ≡ sets (now (rows .entry)) 0 (rowWords (now (input .entry)) count 8)) × (now (values .exit) ≡ sets (now (values .entry)) 0 (valueWords (now (input .entry)) count 8)) ⌝ }
+    requires { ⌜ (nextRows (now input) count 8 ≤ length (now input)) × (count ≤ length (now rows))
+        × (entryWords * valueCount (now input) count 8 ≤ length (now values)) ⌝ }
+    ensures { λ r. ⌜ (now (rows .exit) ≡ sets (now (rows .entry)) 0 (rowWords (now (input .entry)) count 8))
+        × (now (values .exit) ≡ sets (now (values .entry)) 0 (valueWords (now (input .entry)) count 8)) ⌝ }
 {
     let mut row = 0;
     let mut at = WORD_SIZE;

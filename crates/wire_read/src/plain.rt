@@ -86,7 +86,9 @@ fn next_value(input: &[u8], at: usize) -> usize
 // Whether so many values are plain, and where they end.
 fn plain_values(input: &[u8], count: u64, start: usize) -> Plain
     requires { ⌜ nextValues (now input) count start ≤ length (now input) ⌝ }
-    ensures { λ r. ⌜ PlainTill (plainValues (now (input .entry)) count start) (nextValues (now (input .entry)) count start) r ⌝ }
+    ensures { λ r.
+        ⌜ PlainTill (plainValues (now (input .entry)) count start) (nextValues (now (input .entry)) count start) r
+        ⌝ }
 {
     let mut left = count;
     let mut at = start;

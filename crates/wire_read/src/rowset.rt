@@ -1,5 +1,5 @@
-// A rowset read into lent tables, after the Rust's `decode_rowset`. A row is one word, its count or the null mark; a value is five:
-// id, type, aggregate, scalar bits or blob offset, blob length.
+// A rowset read into lent tables, after the Rust's `decode_rowset`. A row is one word, its count or the null mark; a
+// value is five: id, type, aggregate, scalar bits or blob offset, blob length.
 ghost use Rattle.words.specs.Paper.{Tells};
 ghost use Rattle.wire_read.specs.Paper.{paperDecoded};
 ghost use Rattle.wire_read.specs.Statement.{Decodes};
@@ -21,7 +21,8 @@ pub enum Decoded {
 
 // Reads a rowset into the two tables; a refusal leaves them as they were.
 pub fn decode_rowset(input: &[u8], rows: &mut [u64], values: &mut [u64]) -> Decoded
-    ensures { λ r. ⌜ Decodes (now (input .entry)) (now (rows .entry)) (now (values .entry)) r (now (rows .exit)) (now (values .exit)) ⌝ }
+    ensures { λ r. ⌜ Decodes (now (input .entry)) (now (rows .entry)) (now (values .entry)) r (now (rows .exit))
+        (now (values .exit)) ⌝ }
 {
     match walk_rowset(input) {
         Walked::Stopped(refusal) => Decoded::Refused(refusal),

@@ -1,5 +1,5 @@
--- What each public function promises, by name; asking for bytes promises wire's `Needs`, a value wire_value's `ReadsValue`.
--- Assumes nothing.
+-- What each public function promises, by name; asking for bytes promises wire's `Needs`, a value wire_value's
+-- `ReadsValue`. Assumes nothing.
 use Prim.Native.Nat.{ℕ, _+_}
 use mathlib.Core.List.{List, [], _∷_}
 use Rattle.words.specs.Answer.{Answer, accepted}

@@ -1,4 +1,5 @@
--- Document 01's answer for each case of `ReadValue`: the five words of the value's entry, with the next offset. Assumes nothing.
+-- Document 01's answer for each case of `ReadValue`: the five words of the value's entry, with the next offset. Assumes
+-- nothing.
 use Prim.Native.Nat.{ℕ}
 use mathlib.Core.Bool.{Bool, true, false}
 use mathlib.Core.List.{List, [], _∷_}
@@ -47,5 +48,6 @@ bit false = 0
 
 abbrev pub paperValue : ReadValue → Answer
 paperValue (Got v) =
-    accepted (v .next) (v .id ∷ typeOf (v .value) ∷ bit (v .aggregate) ∷ offsetOr (v .value) (v .bits) ∷ lengthOf (v .value) ∷ [])
+    accepted (v .next)
+    (v .id ∷ typeOf (v .value) ∷ bit (v .aggregate) ∷ offsetOr (v .value) (v .bits) ∷ lengthOf (v .value) ∷ [])
 paperValue (Refused refusal) = paper refusal

@@ -1,4 +1,5 @@
--- What each public function promises, by name. (The map of answers promises words' `Tells` of `paperValue`.) Assumes nothing.
+-- What each public function promises, by name. (The map of answers promises words' `Tells` of `paperValue`.) Assumes
+-- nothing.
 use Prim.Native.Nat.{ℕ, _≤_}
 use mathlib.Core.Path.{_≡_}
 use mathlib.Core.List.{List}
@@ -22,10 +23,11 @@ use Rattle.wire_value.specs.declared.value.ReadValue.the-variants.{Got, 
 abbrev pub ReadsHeader : List ℕ → ℕ → Header → Type 0
 ReadsHeader s at r = r ≡ headerAt s at
 
--- The checks of the value at `at`. Where all of them pass, what follows decides, and the header and the next offset are given;
--- else the refusal, whatever follows.
+-- The checks of the value at `at`. Where all of them pass, what follows decides, and the header and the next offset are
+-- given; else the refusal, whatever follows.
 abbrev pub ChecksValue : List ℕ → ℕ → Checked → Type 0
-ChecksValue s at (Passed header next) = (header ≡ headerAt s at) × (next ≡ nextValue s at) × ((rest : Answer) → decide (valueOrder s at) rest ≡ rest)
+ChecksValue s at (Passed header next) =
+    (header ≡ headerAt s at) × (next ≡ nextValue s at) × ((rest : Answer) → decide (valueOrder s at) rest ≡ rest)
 ChecksValue s at (Failed refusal) = (rest : Answer) → decide (valueOrder s at) rest ≡ paper refusal
 
 -- a value whose checks pass lies within the input

@@ -1,5 +1,6 @@
--- The Rust's value of what stands on the wire: document 01, "A single value read answers the Rust's `Value`, its Double carrying an
--- f64 with its bits kept, its blobs an offset and a length; id, aggregate flag and next offset stand beside it". Assumes nothing.
+-- The Rust's value of what stands on the wire: document 01, "A single value read answers the Rust's `Value`, its Double
+-- carrying an f64 with its bits kept, its blobs an offset and a length; id, aggregate flag and next offset stand beside
+-- it". Assumes nothing.
 use Prim.Native.Nat.{ℕ, suc, _+_, _-_, _^_}
 use mathlib.Core.List.{[], _∷_, List}
 use lib.IntN.{ℤ, pos, negsuc}
@@ -38,4 +39,11 @@ headerAt s at = record { id = idAt s at; kind = typeAt s at; aggregate = aggrega
 
 unfoldable pub valueAt : List ℕ → ℕ → UnversionedValue
 valueAt s at =
-    record { id = idAt s at; aggregate = aggregateAt s at ≠? 0; value = valueOf (typeAt s at) (bitsAt s at) (at + 8) (lengthAt s at); bits = bitsAt s at; next = nextValue s at }
+    record {
+      id = idAt s at;
+      aggregate = aggregateAt s at ≠? 0;
+      value =
+          valueOf (typeAt s at) (bitsAt s at) (at + 8) (lengthAt s at);
+      bits = bitsAt s at;
+      next = nextValue s at;
+    }

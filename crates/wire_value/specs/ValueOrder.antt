@@ -1,5 +1,5 @@
--- The order in which a value is read, after document 01: each read that lacks bytes gives 9 with its offset and shortage; after
--- the header 14, then 12 before the blob is looked for. Assumes nothing.
+-- The order in which a value is read, after document 01: each read that lacks bytes gives 9 with its offset and
+-- shortage; after the header 14, then 12 before the blob is looked for. Assumes nothing.
 use Prim.Native.Nat.{ℕ, _+_}
 use mathlib.Core.Bool.{_&&_, not}
 use mathlib.Core.List.{List, [], _∷_}

@@ -1,4 +1,5 @@
--- What `encode_rowset` promises, by name. (The map of answers promises words' `Tells` of `paperEncoded`.) Assumes nothing.
+-- What `encode_rowset` promises, by name. (The map of answers promises words' `Tells` of `paperEncoded`.) Assumes
+-- nothing.
 use Prim.Native.Nat.{ℕ}
 use mathlib.Core.List.{List}
 use lib.ListN.{length}

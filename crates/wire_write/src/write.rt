@@ -42,7 +42,8 @@ fn header(id: u64, kind: u64, aggregate: u64, length: u64) -> u64
 
 // A blob's bytes and its padding.
 fn write_blob(area: &[u8], offset: usize, length: usize, out: &mut [u8]) -> usize
-    requires { ⌜ (offset + length ≤ lib.ListN.length (now area)) × (lib.ListN.length (blobBytes (now area) offset length) ≤ lib.ListN.length (now out)) ⌝ }
+    requires { ⌜ (offset + length ≤ lib.ListN.length (now area))
+        × (lib.ListN.length (blobBytes (now area) offset length) ≤ lib.ListN.length (now out)) ⌝ }
     ensures { λ r. ⌜ Puts (blobBytes (now (area .entry)) offset length) (now (out .entry)) (now (out .exit)) r ⌝ }
 {
     let end = offset + length;
@@ -62,8 +63,11 @@ fn write_value(
     length: u64,
     out: &mut [u8],
 ) -> usize
-    requires { ⌜ (bad (lib.ListN.length (now area)) id kind aggregate bits length ≡ false) × (lib.ListN.length (valueBytes (now area) id kind aggregate bits length) ≤ lib.ListN.length (now out)) ⌝ }
-    ensures { λ r. ⌜ Puts (valueBytes (now (area .entry)) id kind aggregate bits length) (now (out .entry)) (now (out .exit)) r ⌝ }
+    requires { ⌜ (bad (lib.ListN.length (now area)) id kind aggregate bits length ≡ false)
+        × (lib.ListN.length (valueBytes (now area) id kind aggregate bits length) ≤ lib.ListN.length (now out)) ⌝ }
+    ensures { λ r.
+        ⌜ Puts (valueBytes (now (area .entry)) id kind aggregate bits length) (now (out .entry)) (now (out .exit))
+        r ⌝ }
 {
     write_u64(out, header(id, kind, aggregate, length));
     match kind_of(kind) {
@@ -82,8 +86,10 @@ fn write_value(
 
 // The value whose entry begins at the word `k`.
 fn write_entry(area: &[u8], values: &[u64], k: usize, out: &mut [u8]) -> usize
-    requires { ⌜ (k + entryWords ≤ length (now values)) × (badEntry (length (now area)) (now values) k ≡ false) × (length (entryBytes (now area) (now values) k) ≤ length (now out)) ⌝ }
-    ensures { λ r. ⌜ Puts (entryBytes (now (area .entry)) (now (values .entry)) k) (now (out .entry)) (now (out .exit)) r ⌝ }
+    requires { ⌜ (k + entryWords ≤ length (now values)) × (badEntry (length (now area)) (now values) k ≡ false)
+        × (length (entryBytes (now area) (now values) k) ≤ length (now out)) ⌝ }
+    ensures { λ r.
+        ⌜ Puts (entryBytes (now (area .entry)) (now (values .entry)) k) (now (out .entry)) (now (out .exit)) r ⌝ }
 {
     write_value(
         area,
@@ -98,8 +104,11 @@ fn write_entry(area: &[u8], values: &[u64], k: usize, out: &mut [u8]) -> usize
 
 // So many values, each at its own stretch of the output.
 fn write_values(area: &[u8], values: &[u64], start: usize, count: usize, out: &mut [u8]) -> usize
-    requires { ⌜ Good (now area) (now values) × (start % entryWords ≡ 0) × (start + entryWords * count ≤ length (now values)) × (length (valuesBytes (now area) (now values) count start) ≤ length (now out)) ⌝ }
-    ensures { λ r. ⌜ Puts (valuesBytes (now (area .entry)) (now (values .entry)) count start) (now (out .entry)) (now (out .exit)) r ⌝ }
+    requires { ⌜ Good (now area) (now values) × (start % entryWords ≡ 0)
+        × (start + entryWords * count ≤ length (now values))
+        × (length (valuesBytes (now area) (now values) count start) ≤ length (now out)) ⌝ }
+    ensures { λ r. ⌜ Puts (valuesBytes (now (area .entry)) (now (values .entry)) count start) (now (out .entry))
+        (now (out .exit)) r ⌝ }
 {
     let mut at = 0;
     let mut k = start;
@@ -114,8 +123,12 @@ fn write_values(area: &[u8], values: &[u64], start: usize, count: usize, out: &m
 
 // A row's word and its values.
 fn write_row(area: &[u8], values: &[u64], count: u64, k: usize, out: &mut [u8]) -> usize
-    requires { ⌜ Good (now area) (now values) × (k % entryWords ≡ 0) × (k + entryWords * valuesIn count ≤ length (now values)) × (length (rowBytes (now area) (now values) count k) ≤ length (now out)) ⌝ }
-    ensures { λ r. ⌜ Puts (rowBytes (now (area .entry)) (now (values .entry)) count k) (now (out .entry)) (now (out .exit)) r ⌝ }
+    requires { ⌜ Good (now area) (now values) × (k % entryWords ≡ 0)
+        × (k + entryWords * valuesIn count ≤ length (now values))
+        × (length (rowBytes (now area) (now values) count k) ≤ length (now out)) ⌝ }
+    ensures { λ r.
+        ⌜ Puts (rowBytes (now (area .entry)) (now (values .entry)) count k) (now (out .entry)) (now (out .exit)) r
+        ⌝ }
 {
     let n = values_in(count);
     write_u64(out, count);
@@ -125,8 +138,10 @@ fn write_row(area: &[u8], values: &[u64], count: u64, k: usize, out: &mut [u8]) 
 
 // All rows, each at its own stretch of the output.
 fn write_rows(area: &[u8], rows: &[u64], values: &[u64], out: &mut [u8]) -> usize
-    requires { ⌜ Good (now area) (now values) × (length (now values) ≡ entryWords * total (now rows)) × (length (rowsBytes (now area) (now rows) (now values) 0) ≤ length (now out)) ⌝ }
-    ensures { λ r. ⌜ Puts (rowsBytes (now (area .entry)) (now (rows .entry)) (now (values .entry)) 0) (now (out .entry)) (now (out .exit)) r ⌝ }
+    requires { ⌜ Good (now area) (now values) × (length (now values) ≡ entryWords * total (now rows))
+        × (length (rowsBytes (now area) (now rows) (now values) 0) ≤ length (now out)) ⌝ }
+    ensures { λ r. ⌜ Puts (rowsBytes (now (area .entry)) (now (rows .entry)) (now (values .entry)) 0) (now (out .entry))
+        (now (out .exit)) r ⌝ }
 {
     let mut at = 0;
     let mut k = 0;
@@ -142,7 +157,8 @@ fn write_rows(area: &[u8], rows: &[u64], values: &[u64], out: &mut [u8]) -> usiz
 
 // Writes the rowset of the tables over the front of the output; a refusal leaves it as it was.
 pub fn encode_rowset(area: &[u8], rows: &[u64], values: &[u64], out: &mut [u8]) -> Encoded
-    ensures { λ r. ⌜ Encodes (now (area .entry)) (now (rows .entry)) (now (values .entry)) (now (out .entry)) r (now (out .exit)) ⌝ }
+    ensures { λ r. ⌜ Encodes (now (area .entry)) (now (rows .entry)) (now (values .entry)) (now (out .entry)) r
+        (now (out .exit)) ⌝ }
 {
     match encoded_size(area, rows, values) {
         Measured::Refused(refusal) => Encoded::Refused(refusal),

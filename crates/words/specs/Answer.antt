@@ -22,8 +22,8 @@ NotTaken (accepted n fields) = ⊥
 NotTaken more = Unit {0}
 NotTaken (refused number values consumed) = Unit {0}
 
--- What a lent table or buffer that held xs holds after an answer: ws over its front where that is accepted, else xs as it was.
--- Document 01: "All lent memory keeps its contents."
+-- What a lent table or buffer that held xs holds after an answer: ws over its front where that is accepted, else xs as
+-- it was. Document 01: "All lent memory keeps its contents."
 abbrev pub afterwards : Answer → List ℕ → List ℕ → List ℕ
 afterwards (accepted n fields) ws xs = over ws xs
 afterwards more ws xs = xs

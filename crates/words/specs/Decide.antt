@@ -1,6 +1,6 @@
--- An order of checks as data: a list of lines, each a test and the answer it leads to. The answer is that of the first line
--- whose test holds, and the one given last where none does. (What a `let` binds is computed only where it is read, so a list
--- computes no further than its answer.) Assumes nothing.
+-- An order of checks as data: a list of lines, each a test and the answer it leads to. The answer is that of the first
+-- line whose test holds, and the one given last where none does. (What a `let` binds is computed only where it is read,
+-- so a list computes no further than its answer.) Assumes nothing.
 use Prim.Native.Nat.{ℕ, zero, suc, _+_}
 use mathlib.Core.Bool.{Bool, true, false, not}
 use mathlib.Core.List.{List, [], _∷_, _++_}

@@ -1,5 +1,5 @@
--- What a line of an order tells a person, beside its answer (document 02, A9): the field that was looked at, where it stands,
--- what was found there and what was wanted; for need-more the length that is waited for. Assumes nothing.
+-- What a line of an order tells a person, beside its answer (document 02, A9): the field that was looked at, where it
+-- stands, what was found there and what was wanted; for need-more the length that is waited for. Assumes nothing.
 use Prim.Native.Nat.{ℕ}
 use Prim.Native.String.{String}
 use mathlib.Core.List.{List, [], _∷_}

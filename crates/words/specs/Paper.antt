@@ -1,4 +1,5 @@
--- What the code's answers mean in document 01's terms: what ran short by its number, and an answer in words. Assumes nothing.
+-- What the code's answers mean in document 01's terms: what ran short by its number, and an answer in words. Assumes
+-- nothing.
 use Prim.Native.Nat.{ℕ}
 use mathlib.Core.List.{List, [], _∷_}
 use mathlib.Core.Path.{_≡_}
@@ -10,8 +11,8 @@ use Rattle.words.specs.declared.outcome.NoRoom.{NoRoom}
 use Rattle.words.specs.declared.outcome.Room.{Room}
 use Rattle.words.specs.declared.outcome.Room.the-variants.{Parts, Rows, Values, Output, Items, Errors, Attributes}
 
--- "17 NoRoom: which (1 parts, 2 rows, 3 values, 4 output), needed, given"; document 02 adds 5 items (A4), 6 errors and 7
--- attributes (A10)
+-- "17 NoRoom: which (1 parts, 2 rows, 3 values, 4 output), needed, given"; document 02 adds 5 items (A4), 6 errors and
+-- 7 attributes (A10)
 abbrev pub roomNumber : Room → ℕ
 roomNumber Parts = 1
 roomNumber Rows = 2

@@ -1,5 +1,5 @@
--- What each public function promises, by name: the statements that the contracts cite, over the inputs, the result and the
--- lent part at entry and at exit. Assumes nothing.
+-- What each public function promises, by name: the statements that the contracts cite, over the inputs, the result and
+-- the lent part at entry and at exit. Assumes nothing.
 use mathlib.Core.Path.{_≡_}
 use mathlib.Core.List.{List}
 use Prim.Native.Nat.{ℕ}
@@ -15,8 +15,8 @@ ReadsWord k s at r = r ≡ word k s at
 abbrev pub Leaves : List ℕ → List ℕ → List ℕ → Type 0
 Leaves ws before after = after ≡ fitted ws before
 
--- The shape of a statement whose function answers in document 01's terms and is lent buffers: the result r means this answer, and
--- each buffer holds afterwards ws over its front where that is accepted, else what it held.
+-- The shape of a statement whose function answers in document 01's terms and is lent buffers: the result r means this
+-- answer, and each buffer holds afterwards ws over its front where that is accepted, else what it held.
 
 abbrev pub Means : {R : Type 0} → (R → Answer) → Answer → R → Type 0
 Means paper answer r = paper r ≡ answer
