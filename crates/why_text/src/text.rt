@@ -37,8 +37,8 @@ fn put_field(out: &mut [u8], at: usize, number: u64, after: u8) -> usize
 // A field's name, and a space behind it.
 fn put_name(out: &mut [u8], at: usize, field: Field) -> usize
     requires { ⌜ at + 18 ≤ length (now out) ⌝ }
-    ensures { λ r. ⌜ Wrote (text (nameOf field) ++ 32 ∷ []) at (now (out .entry)) r (now (out .exit)) × (r ≤ at + 18) ⌝
-        }
+    ensures { λ r. ⌜ Wrote (text (nameOf field) ++ 32 ∷ []) at (now (out .entry)) r (now (out .exit))
+        × (r ≤ at + 18) ⌝ }
 {
     let last = at + write_name(&mut out[at..], field);
     out[last] = b' ';
