@@ -273,6 +273,7 @@ fn packets(table: &mut Table) {
     decoded(table, "1,000 parts of 1 KiB decoded", 4, Some(7.0), large);
     encoded(table, "1,000 parts of 1 KiB encoded", 4, Some(7.0), large);
     encoded(table, "one part of 64 MiB encoded", 1, Some(3.0), huge);
+    told(table, "1,000 parts of 1 KiB, why", 4, large);
     decoded(
         table,
         "1,000 parts of 1 KiB without checksums decoded",
@@ -280,6 +281,25 @@ fn packets(table: &mut Table) {
         Some(1.0),
         bare,
     );
+}
+
+/// What is told of a packet that has nothing wrong, which the Rust has not: all its checks are made.
+fn told(table: &mut Table, name: &str, batch: usize, make: impl Fn() -> Sample) {
+    let wire = make().wire;
+    let mode = cablefinch::packet::Mode::Archive;
+    let wrapped = || cablefinch::why::packet(mode, &wire, LIMIT, u32::MAX);
+    table.line(name, wire.len(), None, || {
+        assert!(wrapped() == cablefinch::why::Why::Fine);
+        Times {
+            rust: f64::NAN,
+            port: time(
+                batch,
+                || (),
+                |()| face::why_packet(ARCHIVE, &wire, LIMIT, u32::MAX),
+            ),
+            wrapped: time(batch, || (), |()| wrapped()),
+        }
+    });
 }
 
 /// Acks that lie one behind another in one buffer, each taken off its front: what a service does. All
@@ -587,6 +607,14 @@ fn rowset(table: &mut Table, name: &str, batch: usize, sample: &[MaybeRow]) -> f
             rust: f64::NAN,
             port: time(batch, || (), |()| face::is_plain(&wire)),
             wrapped: time(batch, || (), |()| rowsets_of_crate::is_plain(&wire)),
+        }
+    });
+    table.line(&format!("{name}, why"), wire.len(), None, || {
+        assert!(cablefinch::why::rowset(&wire) == cablefinch::why::Why::Fine);
+        Times {
+            rust: f64::NAN,
+            port: time(batch, || (), |()| face::why_rowset(&wire)),
+            wrapped: time(batch, || (), |()| cablefinch::why::rowset(&wire)),
         }
     });
     let read = rowsets_of_crate::decode_rowset(&wire).unwrap();

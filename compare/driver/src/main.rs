@@ -525,14 +525,8 @@ fn rowset_write(room: u64, area: &[u8], rows: &[u64], values: &[u64]) -> Answer 
     Ok(written(&outcome, &out))
 }
 
-/// The text of the tables. The size must answer the same, room aside.
-fn text_write(room: u64, area: &[u8], rows: &[u64], values: &[u64]) -> Answer {
-    // A value without its bytes has at most 25, a line's end among them, and each of its bytes three.
-    let lengths = values.iter().skip(4).step_by(VALUE as usize).copied();
-    let most = 64 + 2 * rows.len() as u64 + 5 * values.len() as u64 + 3 * most(area, 0, lengths);
-    let mut out = Placed::filled(room.min(most) as usize);
-    let sized = face::text_size(area, rows, values);
-    let outcome = face::write_text(area, rows, values, &mut out);
+/// What was written, where the size answered the same, room aside.
+fn as_sized(sized: &Outcome, outcome: &Outcome, out: &[u8]) -> String {
     let alike = match outcome.number {
         17 => sized.kind == face::ACCEPTED && sized.count == outcome.values[1],
         _ => {
@@ -541,10 +535,22 @@ fn text_write(room: u64, area: &[u8], rows: &[u64], values: &[u64]) -> Answer {
                 && sized.values == outcome.values
         }
     };
-    if !alike {
-        return Ok("other answer of the size".to_string());
+    if alike {
+        written(outcome, out)
+    } else {
+        "other answer of the size".to_string()
     }
-    Ok(written(&outcome, &out))
+}
+
+/// The text of the tables. The size must answer the same, room aside.
+fn text_write(room: u64, area: &[u8], rows: &[u64], values: &[u64]) -> Answer {
+    // A value without its bytes has at most 25, a line's end among them, and each of its bytes three.
+    let lengths = values.iter().skip(4).step_by(VALUE as usize).copied();
+    let most = 64 + 2 * rows.len() as u64 + 5 * values.len() as u64 + 3 * most(area, 0, lengths);
+    let mut out = Placed::filled(room.min(most) as usize);
+    let sized = face::text_size(area, rows, values);
+    let outcome = face::write_text(area, rows, values, &mut out);
+    Ok(as_sized(&sized, &outcome, &out))
 }
 
 fn text_read(rows: u64, values: u64, room: u64, input: &[u8]) -> Answer {
@@ -678,16 +684,5 @@ fn error_write(room: u64, area: &[u8], errors: &[u64], attributes: &[u64]) -> An
     let mut out = Placed::filled(room.min(most) as usize);
     let sized = face::error_size(area, errors, attributes);
     let outcome = face::error_write(area, errors, attributes, &mut out);
-    let alike = match outcome.number {
-        17 => sized.kind == face::ACCEPTED && sized.count == outcome.values[1],
-        _ => {
-            sized.kind == outcome.kind
-                && sized.count == outcome.count
-                && sized.values == outcome.values
-        }
-    };
-    if !alike {
-        return Ok("other answer of the size".to_string());
-    }
-    Ok(written(&outcome, &out))
+    Ok(as_sized(&sized, &outcome, &out))
 }

@@ -10,7 +10,7 @@ use Rattle.words.specs.Word.{Bytes}
 use Rattle.crc64.specs.Polynomial.{step, steps, foldByte, fold}
 use Rattle.crc64.specs.Damage.{xorBytes}
 use Rattle.crc64.proofs.Register.{step-lt, steps-lt}
-use Rattle.crc64.proofs.Digits.{foldDigit, foldDigits, spelled, digits-append, digits-xor, digits-apart, digits-in-64, digits-injective, digits-once, pow-digit}
+use Rattle.crc64.proofs.Digits.{foldDigit, foldDigits, spelled, digits-append, digits-xor, digits-apart, digits-in-64, digits-once, pow-digit}
 
 pub fold-digits : (r : ℕ) (s : List ℕ) → fold r s ≡ foldDigits 8 r s
 unfolding fold foldByte foldDigits foldDigit
@@ -41,9 +41,6 @@ pub fold-lt : (r : ℕ) (bs : List ℕ) → r < 2 ^ 64 → fold r bs < 2 ^ 64
 fold-lt r bs h = subst (λ (x : ℕ). x < 2 ^ 64) (sym (fold-digits r bs)) (digits-in-64 8 r bs (lit< tt) h)
 
 -- ---- nothing of the register is lost
-
-pub fold-injective : (bs : List ℕ) {r s : ℕ} → r < 2 ^ 64 → s < 2 ^ 64 → fold r bs ≡ fold s bs → r ≡ s
-fold-injective bs {r} {s} hr hs e = digits-injective 8 bs hr hs (sym (fold-digits r bs) ∙ e ∙ fold-digits s bs)
 
 -- ---- at most eight bytes at once: m is what they leave free of the register
 

@@ -1,25 +1,21 @@
 -- The fold over lent tables by the count of their numbers, and that eight true tables are an engine, and one too. Assumes nothing.
 use mathlib.Core.Path.{_≡_, refl, sym, ap, ap₂, _∙_}
-use mathlib.Core.Bool.{Bool, true}
+use mathlib.Core.Bool.{Bool}
 use mathlib.Core.List.{List}
 use Prim.Native.Nat.{ℕ, _^_, _≤_, _<_, _/_, _*_}
 use native.Mathlib.Omega.{arith}
 use native.Mathlib.Nat.{mul-comm}
-use lib.Dec.{lit<}
 use lib.ListN.{length, drop}
 use borrow.Author.Tests.{lt-ltb, le-ltb}
 use Rattle.words.specs.Word.{Bytes}
 use Rattle.words.specs.Decide.{pick, _<?_}
-use Rattle.crc64.specs.Polynomial.{fold, checksum}
-use Rattle.crc64.specs.Statement.{TableIs}
+use Rattle.crc64.specs.Polynomial.{fold}
 use Rattle.crc64.specs.Table.{swapped, foldOver}
-use Rattle.crc64.proofs.Entries.{fold-over-true}
 use Rattle.crc64.proofs.Folding.{fold-lt}
 use Rattle.crc64.proofs.Swap.{swapped-lt, swapped-twice}
 use Rattle.crc64_eight.specs.Lent.{oneTable, eightTables, foldWords, foldEight, foldLent}
 use Rattle.crc64_eight.specs.Statement.{TablesIs}
 use Rattle.crc64_eight.specs.Engine.{Engine}
-use Rattle.crc64_eight.proofs.Rule.{length-entries}
 use Rattle.crc64_eight.proofs.Words.{fold-eight-true}
 
 -- ---- by the count
@@ -40,9 +36,6 @@ lent-eight t r s h e = e ∙ cases t r s (le-ltb (length t) oneTable (omega arit
 
 -- ---- the words, and the tail behind them
 
-pub tail-from : (s : List ℕ) → length s / 8 * 8 ≤ length s
-tail-from s = omega arith
-
 pub tailed : (t : List ℕ) (r : ℕ) (s : List ℕ) {x z : ℕ} → x ≡ foldWords t (length s / 8) r s → z ≡ foldOver t x (drop (length s / 8 * 8) s) → z ≡ foldEight t r s
 unfolding foldEight
 tailed t r s words tail =
@@ -52,12 +45,6 @@ tailed t r s words tail =
 
 pub eight-engine : {t : List ℕ} → TablesIs t → Engine t
 eight-engine {t} told r s hr hs = sym (lent-eight t (swapped 8 r) s (omega (arith, told .size)) (sym (fold-eight-true t r s told hr hs)))
-
-pub one-engine : {t : List ℕ} → TableIs t → Engine t
-one-engine {t} told r s hr hs =
-    let long : length t ≡ oneTable = ap length told ∙ length-entries 8 in
-    sym (lent-one t (swapped 8 r) s (omega (arith, long)) (omega (arith, long))
-    (sym (ap (λ (u : List ℕ). foldOver u (swapped 8 r) s) told ∙ fold-over-true r s hr hs)))
 
 -- ---- what a caller has of an engine
 
@@ -74,7 +61,3 @@ pub fold-lent-held : (t : List ℕ) {z : ℕ} (r : ℕ) (s : List ℕ)
     → Engine t → z ≡ foldLent t r s → r < 2 ^ 64 → Bytes s → z ≡ swapped 8 (fold (swapped 8 r) s)
 fold-lent-held t r s true-tables e hr hs =
     e ∙ ap (λ (x : ℕ). foldLent t x s) (sym (swapped-twice 8 r hr)) ∙ true-tables (swapped 8 r) s (swapped-lt 8 r) hs
-
-pub checksum-lent-is : (t : List ℕ) {z : ℕ} (s : List ℕ) → Engine t → z ≡ swapped 8 (foldLent t 0 s) → Bytes s → z ≡ checksum s
-unfolding swapped
-checksum-lent-is t s true-tables e hs = fold-lent-is t 0 s true-tables refl refl e (lit< tt) hs

@@ -2,7 +2,7 @@
 use mathlib.Core.Path.{_≡_, refl, sym, ap, _∙_, subst}
 use mathlib.Core.List.{List, [], _++_, append-nil, append-assoc}
 use Prim.Native.Nat.{ℕ, _+_, _-_, _*_, _≤_}
-use native.Mathlib.Nat.{add-zero, le-of-eq}
+use native.Mathlib.Nat.{le-of-eq}
 use native.Mathlib.Omega.{arith}
 use lib.ListN.{length, take, drop, length-drop, take-append-drop}
 use lib.Seq.{take-all, drop-append-le, length-take-le}
@@ -10,17 +10,10 @@ use borrow.Rule.Slice.PartMut.{midOf, putMid}
 use Rattle.words.specs.Word.{word, bytesOf, Bytes}
 use Rattle.words.specs.Buffer.{over, fitted}
 use Rattle.words.specs.Filling.{Filling}
-use Rattle.words.proofs.WordLaws.{word-take, word-drop, length-bytesOf}
+use Rattle.words.proofs.WordLaws.{length-bytesOf}
 use Rattle.words.proofs.BufferLaws.{fitted-fits}
 use Rattle.words.proofs.FillingLaws.{closes, leaves}
 use Rattle.crc64_fast.proofs.Walk.{word-copied}
-
--- eight bytes that are lent by themselves have the word that stands at their place
-pub word-there : (s : List ℕ) (at : ℕ) {w : ℕ} → w ≡ word 8 (take (at + 8 - at) (drop at s)) 0 → w ≡ word 8 s at
-word-there s at e = e ∙ word-take 8 (at + 8 - at) (drop at s) 0 (eight at) ∙ word-drop 8 at s 0 ∙ ap (word 8 s) (add-zero at)
-  where
-    eight : (k : ℕ) → 0 + 8 ≤ k + 8 - k
-    eight k = omega arith
 
 -- what a writer leaves of a part that has the room, put back: the same whichever part was lent
 part-put : (ws xs : List ℕ) (to k : ℕ) → length ws ≤ length (midOf to k xs) → putMid to k xs (fitted ws (midOf to k xs)) ≡ take to xs ++ over ws (drop to xs)

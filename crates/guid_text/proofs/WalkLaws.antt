@@ -5,13 +5,11 @@ use Prim.Native.Nat.{ℕ, zero, suc, _+_, _-_, _*_, _^_, _<_, _≤_}
 use native.Mathlib.Nat.{pow-succ', pow-le-pow-right, sub-self, eq-or-lt-of-le}
 use native.Mathlib.Numerals.{add-one}
 use native.Mathlib.Omega.{arith}
-use borrow.Author.Tests.{lt-ltb, le-ltb, eq-eqb, ne-eqb}
+use borrow.Author.Tests.{lt-ltb, le-ltb, ne-eqb}
 use Rattle.places.specs.Machine.{Move, on, off}
-use Rattle.guid.specs.declared.Guid.{Guid}
 use Rattle.guid.specs.Guid.{guidOf}
 use Rattle.words.specs.Text.{digitOf}
 use Rattle.numerals.proofs.Cases.{lt-or-le, same-or-other}
-use Rattle.guid_text.specs.declared.Reason.{Reason}
 use Rattle.guid_text.specs.declared.Reason.the-variants.{Empty, TooLong, NotHex, FieldCount}
 use Rattle.guid_text.specs.Fields.{dash}
 use Rattle.guid_text.proofs.ValueLaws.{digit-byte, no-dash}
@@ -109,9 +107,6 @@ ended q =
 -- a move is one of two
 pub on-not-off : {S R : Type 0} (x : Move S R) (q : S) (r : R) → x ≡ on q → x ≡ off r → ⊥
 on-not-off x q r e f = let z : _≡_ {A = ℕ} 0 1 = cc in omega arith
-
-pub same-on : {S R : Type 0} (x : Move S R) (q q′ : S) → x ≡ on q → x ≡ on q′ → q ≡ q′
-same-on x q q′ e f = cc
 
 pub same-off : {S R : Type 0} (x : Move S R) (r r′ : R) → x ≡ off r → x ≡ off r′ → r ≡ r′
 same-off x r r′ e f = cc

@@ -4,6 +4,10 @@ ghost use Prim.Native.Nat.{_<_};
 ghost use mathlib.Core.Path.{_≡_};
 ghost use lib.ListN.{length};
 ghost use Rattle.pack_links.specs.Statement.{plainWord, Unlinks};
+use wire::layout::ENTRY_WORDS;
+
+// What a link adds to a word for each entry: the bits below are the word's own.
+pub const LINK: u64 = 0x1_0000;
 
 pub enum Place {
     // the entry that has the pair
@@ -18,8 +22,8 @@ fn plain_word(values: &[u64], k: usize) -> u64
     requires { ⌜ k < length (now values) ⌝ }
     ensures { λ r. ⌜ r ≡ plainWord (now (values .entry)) k ⌝ }
 {
-    if k % 5 < 3 {
-        return values[k] % 65536;
+    if k % ENTRY_WORDS < 3 {
+        return values[k] % LINK;
     }
     values[k]
 }

@@ -5,6 +5,7 @@ ghost use mathlib.Core.Bool.{_&&_};
 ghost use Prim.Native.Nat.{_+_, _*_, _%_, _^_, _<_, _≤_};
 ghost use lib.ListN.{length};
 ghost use Rattle.words.specs.Buffer.{over};
+ghost use Rattle.wire.specs.Layout.{entryWords};
 ghost use Rattle.wire_check.specs.Writing.{entriesIn};
 ghost use Rattle.pack_pairs.specs.Pairs.{stored};
 ghost use Rattle.pack_pairs.specs.Packing.{capped};
@@ -24,21 +25,22 @@ use words::write::write_bytes;
 
 // Whether the entry j stores the pair of the entry i.
 fn uses(values: &[u64], j: usize, i: usize) -> bool
-    requires { ⌜ (5 * j + 5 ≤ length (now values)) × (5 * i + 5 ≤ length (now values)) ⌝ }
+    requires { ⌜ (entryWords * j + entryWords ≤ length (now values))
+        × (entryWords * i + entryWords ≤ length (now values)) ⌝ }
     ensures { λ r. ⌜ r ≡ (stored (now (values .entry)) j && same (now (values .entry)) j i) ⌝ }
 {
-    if !is_stored(values[5 * j + 1], values[5 * j + 4]) {
+    if !is_stored(values[ENTRY_WORDS * j + 1], values[ENTRY_WORDS * j + 4]) {
         return false;
     }
-    if values[5 * j + 3] != values[5 * i + 3] {
+    if values[ENTRY_WORDS * j + 3] != values[ENTRY_WORDS * i + 3] {
         return false;
     }
-    values[5 * j + 4] == values[5 * i + 4]
+    values[ENTRY_WORDS * j + 4] == values[ENTRY_WORDS * i + 4]
 }
 
 // The first entry that stores the pair of the entry i: one before it, else i itself.
 fn first_use(values: &[u64], i: usize) -> usize
-    requires { ⌜ 5 * i + 5 ≤ length (now values) ⌝ }
+    requires { ⌜ entryWords * i + entryWords ≤ length (now values) ⌝ }
     ensures { λ r. ⌜ r ≡ firstUse (now (values .entry)) i ⌝ }
 {
     let mut j = 0;
@@ -53,21 +55,21 @@ fn first_use(values: &[u64], i: usize) -> usize
 
 // The length of the entry's pair where it is new, else 0.
 fn room_of(values: &[u64], i: usize) -> u64
-    requires { ⌜ 5 * i + 5 ≤ length (now values) ⌝ }
+    requires { ⌜ entryWords * i + entryWords ≤ length (now values) ⌝ }
     ensures { λ r. ⌜ r ≡ roomOf (now (values .entry)) i ⌝ }
 {
-    if !is_stored(values[5 * i + 1], values[5 * i + 4]) {
+    if !is_stored(values[ENTRY_WORDS * i + 1], values[ENTRY_WORDS * i + 4]) {
         return 0;
     }
     if first_use(values, i) != i {
         return 0;
     }
-    values[5 * i + 4]
+    values[ENTRY_WORDS * i + 4]
 }
 
 // The lengths of the distinct pairs among the first n entries, at most 2^64-1.
 fn room_before(values: &[u64], n: usize) -> u64
-    requires { ⌜ 5 * n ≤ length (now values) ⌝ }
+    requires { ⌜ entryWords * n ≤ length (now values) ⌝ }
     ensures { λ r. ⌜ r ≡ capped (room (now (values .entry)) n) ⌝ }
 {
     let mut sum = 0;
@@ -81,13 +83,13 @@ fn room_before(values: &[u64], n: usize) -> u64
 
 // The fourth word of the entry i after packing.
 fn new_word(values: &[u64], i: usize) -> u64
-    requires { ⌜ (5 * i + 5 ≤ length (now values)) × (newOffset (now values) i < 2 ^ 64) ⌝ }
+    requires { ⌜ (entryWords * i + entryWords ≤ length (now values)) × (newOffset (now values) i < 2 ^ 64) ⌝ }
     ensures { λ r. ⌜ r ≡ newWord (now (values .entry)) i ⌝ }
 {
-    if !is_blob(values[5 * i + 1]) {
-        return values[5 * i + 3];
+    if !is_blob(values[ENTRY_WORDS * i + 1]) {
+        return values[ENTRY_WORDS * i + 3];
     }
-    if values[5 * i + 4] == 0 {
+    if values[ENTRY_WORDS * i + 4] == 0 {
         return 0;
     }
     room_before(values, first_use(values, i))
@@ -96,13 +98,13 @@ fn new_word(values: &[u64], i: usize) -> u64
 // Gives each blob its new offset, from the last entry to the first, since a new word asks for earlier ones as they
 // were.
 fn move_all(values: &mut [u64])
-    requires { ⌜ (length (now values) % 5 ≡ 0) × (needed (now values) < 2 ^ 64) ⌝ }
+    requires { ⌜ (length (now values) % entryWords ≡ 0) × (needed (now values) < 2 ^ 64) ⌝ }
     ensures { λ _. ⌜ now (values .exit) ≡ packed (now (values .entry)) ⌝ }
 {
     let mut i = values.len() / ENTRY_WORDS;
     while 0 < i {
         i -= 1;
-        values[5 * i + 3] = new_word(values, i);
+        values[ENTRY_WORDS * i + 3] = new_word(values, i);
     }
 }
 
@@ -118,7 +120,7 @@ fn copy_all(area: &[u8], values: &[u64], out: &mut [u8])
     let mut i = 0;
     while i < size {
         let n = room_of(values, i);
-        let bytes = cut(area, values[5 * i + 3], n);
+        let bytes = cut(area, values[ENTRY_WORDS * i + 3], n);
         write_bytes(&mut out[at..], bytes);
         at += n as usize;
         i += 1;

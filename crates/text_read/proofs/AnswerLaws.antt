@@ -2,12 +2,12 @@
 use mathlib.Core.Path.{_≡_, refl, sym, _∙_, ap}
 use mathlib.Core.List.{List, [], _∷_}
 use mathlib.Core.Logic.{_⊎_, inl, inr}
-use Prim.Native.Nat.{ℕ, _+_, _*_, _/_, _<_, _≤_}
+use Prim.Native.Nat.{ℕ, _/_, _<_, _≤_}
 use native.Mathlib.Omega.{arith}
 use borrow.Author.Tests.{lt-ltb, le-ltb}
-use lib.ListN.{length, getD}
+use lib.ListN.{length}
 use lib.Seq.{sets}
-use Rattle.words.specs.Answer.{Answer, accepted, more, refused, refuse, NotTaken, afterwards}
+use Rattle.words.specs.Answer.{Answer, accepted, NotTaken, afterwards}
 use Rattle.words.specs.Buffer.{over}
 use Rattle.words.specs.Statement.{Holds}
 use Rattle.words.specs.declared.outcome.Room.the-variants.{Rows, Values, Output}
@@ -20,7 +20,7 @@ use Rattle.wire.specs.declared.error.WireError.the-variants.{NoRoom}
 use Rattle.wire.proofs.PaperLaws.{paper-not-taken}
 use Rattle.text_form.specs.Walk.{start}
 use Rattle.text_steps.specs.Tables.{allCells, rowTable, valueTable, areaBytes}
-use Rattle.text_walk.specs.Paper.{textPaper, walkedPaper}
+use Rattle.text_walk.specs.Paper.{textPaper}
 use Rattle.text_walk.specs.Statement.{walking, endingAs, counts, counting, Counts}
 use Rattle.text_walk.specs.declared.error.TextError.{TextError}
 use Rattle.text_walk.specs.declared.error.TextError.the-variants.{BadText, Limit}

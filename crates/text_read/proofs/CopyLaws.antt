@@ -1,20 +1,17 @@
 -- How the second walk copies a blob: an escape, and the blob byte by byte into the area. Assumes nothing.
 use mathlib.Core.Path.{_≡_, refl, sym, _∙_, ap}
 use mathlib.Core.List.{List, [], _∷_, _++_}
-use mathlib.Core.Logic.{_⊎_, inl, inr}
-use Prim.Native.Nat.{ℕ, suc, _+_, _-_, _*_, _<_, _≤_}
+use Prim.Native.Nat.{ℕ, _+_, _*_, _<_, _≤_}
 use native.Mathlib.Omega.{arith}
 use lib.ListN.{length, getD, set, length-append}
 use lib.Seq.{sets, length-sets}
 use Rattle.places.specs.Machine.{read}
-use Rattle.wire.specs.Content.{Content, nothing, word, bytes, Cell, Row}
+use Rattle.wire.specs.Content.{bytes, Cell, Row}
 use Rattle.wire.proofs.LayoutLaws.{sets-append}
 use Rattle.text_form.specs.Form.{tab, lineFeed, percentSign}
-use Rattle.text_form.specs.Walk.{Phase, full, percent, second, State, at, cellOf, capitalValue}
-use Rattle.text_steps.specs.Tables.{blobOf, blobs, allCells, areaBytes}
+use Rattle.text_form.specs.Walk.{full, percent, second, at, cellOf, capitalValue}
 use Rattle.text_steps.specs.Reading.{from, EndsThere}
-use Rattle.text_read.specs.Stages.{Has, HasEscape, ReadsEscape, AreaRoom, HasBlob, CopiesUnits}
-use Rattle.text_read.specs.declared.fill.Copied.{Copied}
+use Rattle.text_read.specs.Stages.{HasEscape, ReadsEscape, HasBlob, CopiesUnits}
 use Rattle.text_steps.proofs.AheadLaws.{bytesSoFar, within-end}
 use Rattle.text_steps.proofs.ReadLaws as reads
 

@@ -1,17 +1,15 @@
 -- Hex digits by arithmetic alone: one at a time, and eight in the bytes of a word, of which no carry leaves its byte. Assumes
 -- nothing.
-use mathlib.Core.Path.{_≡_, refl, sym, _∙_, ap, ap₂}
+use mathlib.Core.Path.{_≡_, refl, _∙_, ap, ap₂}
 use mathlib.Core.List.{List, [], _∷_}
 use mathlib.Core.Logic.{_⊎_, inl, inr, ⊎-elim}
-use Prim.Native.Nat.{ℕ, zero, suc, _+_, _-_, _*_, _/_, _%_, _^_, _<_, _≤_}
-use native.Mathlib.Nat.{add-zero}
+use Prim.Native.Nat.{ℕ, zero, suc, _+_, _-_, _*_, _/_, _%_, _<_, _≤_}
 use native.Mathlib.Omega.{arith}
 use borrow.Author.Tests.{lt-ltb, le-ltb}
 use lib.Bits.{bitAnd, and-block, and-high, and-le-r}
-use lib.ListN.{getD, take, drop}
+use lib.ListN.{getD}
 use Rattle.words.specs.Decide.{decide, _⇒_, _<?_}
 use Rattle.words.specs.Word.{word}
-use Rattle.words.proofs.WordLaws.{word-take, word-drop}
 use Rattle.words.proofs.DecideLaws.{le-or-gt}
 use Rattle.text_form.specs.Walk.{smallValue, capitalValue}
 use Rattle.text_read.specs.Stages.{Digits, digitValues, spelling}
@@ -89,13 +87,6 @@ parts (suc k) s i d =
     let its : b ≡ 48 + 39 * (b / 64) + smallValue b = small-digit b (d .0) .1 in
     let rest = parts k s (i + 1) (d .1) in
     omega (arith, its, rest)
-
--- eight bytes that are lent by themselves have the word that stands at their place
-pub word-there : (s : List ℕ) (at : ℕ) {w : ℕ} → w ≡ word 8 (take (at + 8 - at) (drop at s)) 0 → w ≡ word 8 s at
-word-there s at e = e ∙ word-take 8 (at + 8 - at) (drop at s) 0 (eight at) ∙ word-drop 8 at s 0 ∙ ap (word 8 s) (add-zero at)
-  where
-    eight : (k : ℕ) → 0 + 8 ≤ k + 8 - k
-    eight k = omega arith
 
 -- the letters taken out of a word of eight digits, and the values left
 abbrev zeros : ℕ

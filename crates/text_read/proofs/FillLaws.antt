@@ -1,23 +1,16 @@
 -- How the stages of the second walk go on: an id, a head, a scalar, a blob. Assumes nothing.
 use mathlib.Core.Path.{_≡_, refl, sym, _∙_, ap}
-use mathlib.Core.Bool.{Bool, true, false}
-use mathlib.Core.List.{List, [], _∷_, _++_, append-nil}
-use mathlib.Core.Logic.{_⊎_, inl, inr, ⊎-elim}
-use Prim.Native.Nat.{ℕ, zero, suc, _+_, _-_, _*_, _/_, _%_, _^_, _<_, _≤_}
+use mathlib.Core.List.{List}
+use Prim.Native.Nat.{ℕ, zero, suc, _+_, _-_, _*_, _^_, _<_, _≤_}
 use native.Mathlib.Nat.{add-zero, pow-succ'}
 use native.Mathlib.Omega.{arith}
-use borrow.Author.Tests.{lt-ltb, le-ltb}
-use Rattle.words.proofs.DecideLaws.{le-or-gt}
-use lib.ListN.{length, getD, set, length-append}
-use lib.Seq.{sets, length-sets}
+use lib.ListN.{length, getD}
 use Rattle.places.specs.Machine.{read}
-use Rattle.wire.specs.Layout.{known}
-use Rattle.wire.specs.Content.{Content, nothing, word, bytes, Cell, Row, values}
-use Rattle.text_form.specs.Form.{tab, lineFeed, colon, aggregateSign, percentSign}
-use Rattle.text_form.specs.Walk.{Phase, fresh, number, letter, digits, full, percent, second, State, at, cellOf, typeOf, smallValue, capitalValue, behindDigit}
-use Rattle.text_steps.specs.Tables.{blobOf, blobs, allCells, areaBytes}
-use Rattle.text_steps.specs.Reading.{from, opened, Signless, EndsThere}
-use Rattle.text_read.specs.Stages.{Has, HasNumber, ReadsId, HasLetter, ReadsLetter, ReadsHead, Digits, spelling, HasWord, ReadsWord}
+use Rattle.wire.specs.Content.{Cell, Row}
+use Rattle.text_form.specs.Form.{colon, aggregateSign}
+use Rattle.text_form.specs.Walk.{number, letter, digits, at, typeOf, smallValue, behindDigit}
+use Rattle.text_steps.specs.Reading.{from}
+use Rattle.text_read.specs.Stages.{HasNumber, ReadsId, HasLetter, ReadsLetter, ReadsHead, Digits, spelling, HasWord, ReadsWord}
 use Rattle.text_read.specs.declared.fill.Number.{Number}
 use Rattle.text_read.specs.declared.fill.Head.{Head}
 use Rattle.text_steps.proofs.ReadLaws as reads

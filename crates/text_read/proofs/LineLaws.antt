@@ -1,31 +1,28 @@
 -- How the second walk fills a line: the values of a row, an empty row, a null row. Assumes nothing.
 use mathlib.Core.Path.{_≡_, refl, sym, _∙_, ap}
-use mathlib.Core.Bool.{Bool, true, false, not, _&&_, _||_}
-use mathlib.Core.List.{List, [], _∷_, _++_, append-assoc, append-nil}
-use mathlib.Core.Logic.{_⊎_, inl, inr, ⊎-elim}
-use Prim.Native.Nat.{ℕ, zero, suc, _+_, _-_, _*_, _<_, _≤_}
+use mathlib.Core.Bool.{Bool, true, false}
+use mathlib.Core.List.{List, [], _∷_, _++_}
+use mathlib.Core.Logic.{inl}
+use Prim.Native.Nat.{ℕ, _+_, _-_, _*_, _<_, _≤_}
 use native.Mathlib.Omega.{arith}
 use borrow.Author.Tests.{ne-eqb, eqb-true, eqb-false, le-ltb, lt-ltb}
-use lib.ListN.{length, getD, set, length-append}
+use lib.ListN.{length, getD, length-append}
 use lib.Seq.{sets, length-sets}
 use Rattle.words.specs.Answer.{Answer}
-use Rattle.words.specs.Decide.{_<?_, _=?_}
-use Rattle.words.proofs.DecideLaws.{le-or-gt}
-use Rattle.places.specs.Machine.{Move, on, off, read}
-use Rattle.places.proofs.MachineLaws.{read-not-stopped}
+use Rattle.words.specs.Decide.{_=?_}
+use Rattle.places.specs.Machine.{on, off, read}
 use Rattle.wire.specs.Layout.{nullMark}
-use Rattle.wire.specs.Content.{Content, nothing, word, bytes, Cell, Row, null, values}
+use Rattle.wire.specs.Content.{word, Cell, Row, null, values}
 use Rattle.wire.proofs.LayoutLaws.{sets-append}
-use Rattle.text_form.specs.Form.{tab, lineFeed, nullSign}
-use Rattle.text_form.specs.Walk.{Phase, fresh, number, State, hash, at, Go, step}
-use Rattle.text_form.specs.Limits.{Ask, asked, passed, over, walkWithin}
-use Rattle.text_steps.specs.Tables.{blobOf, blobs, allCells, cellsOf, rowWord, entriesFrom, areaBytes}
+use Rattle.text_form.specs.Form.{lineFeed, nullSign}
+use Rattle.text_form.specs.Walk.{fresh, number, State, hash, at, Go, step}
+use Rattle.text_form.specs.Limits.{Ask, asked, over}
+use Rattle.text_steps.specs.Tables.{blobOf, blobs, entriesFrom}
 use Rattle.text_steps.specs.Reading.{from, isDigit, behindValue}
 use Rattle.text_steps.proofs.SizeLaws.{blobs-snoc}
 use Rattle.text_steps.proofs.StepLaws as steps
 use Rattle.text_read.specs.Stages.{HasValue, FillsValue, HasLine, HasValues, FillsLine}
 use Rattle.text_read.specs.declared.fill.Value.{Value}
-use Rattle.text_read.specs.declared.fill.Line.{Line}
 use Rattle.text_steps.proofs.AheadLaws.{cellsSoFar, within-end}
 use Rattle.text_steps.proofs.ReadLaws as reads
 

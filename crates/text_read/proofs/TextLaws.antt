@@ -1,14 +1,14 @@
 -- How the second walk fills the tables and the area, line by line. Assumes nothing.
 use mathlib.Core.Path.{_≡_, refl, sym, _∙_, ap}
-use mathlib.Core.List.{List, [], _∷_, _++_, map}
-use Prim.Native.Nat.{ℕ, suc, _+_, _-_, _*_, _<_, _≤_}
+use mathlib.Core.List.{List, [], _∷_, _++_}
+use Prim.Native.Nat.{ℕ, suc, _+_, _*_, _<_, _≤_}
 use native.Mathlib.Omega.{arith}
-use lib.ListN.{length, set, drop, length-append, length-set}
+use lib.ListN.{length, set, length-append}
 use lib.Seq.{sets, length-sets}
 use Rattle.places.specs.Machine.{read}
-use Rattle.wire.specs.Content.{Content, Cell, Row}
+use Rattle.wire.specs.Content.{Row}
 use Rattle.wire.proofs.LayoutLaws.{sets-append}
-use Rattle.text_form.specs.Walk.{fresh, State, at, start}
+use Rattle.text_form.specs.Walk.{fresh, at}
 use Rattle.text_steps.specs.Tables.{blobs, allCells, cellsOf, rowWord, entriesFrom, rowTable, valueTable, areaBytes}
 use Rattle.text_walk.specs.Statement.{walking}
 use Rattle.text_steps.specs.Reading.{from}

@@ -1,26 +1,24 @@
 -- How the second walk fills a value: what stands behind its letter, and the five words of its entry. Assumes nothing.
 use mathlib.Core.Path.{_≡_, refl, sym, _∙_, ap}
-use mathlib.Core.Bool.{Bool, true, false, true≢false}
-use mathlib.Core.List.{List, [], _∷_, _++_}
-use mathlib.Core.Logic.{_⊎_, inl, inr}
-use Prim.Native.Nat.{ℕ, suc, _+_, _-_, _*_, _<_, _≤_}
+use mathlib.Core.Bool.{false, true≢false}
+use mathlib.Core.List.{List, [], _∷_}
+use Prim.Native.Nat.{ℕ, suc, _+_, _-_, _<_, _≤_}
 use native.Mathlib.Omega.{arith}
 use lib.ListN.{length, getD, set}
-use lib.Seq.{sets, length-sets}
+use lib.Seq.{sets}
 use Rattle.words.specs.Decide.{_=?_}
 use Rattle.places.specs.Machine.{read}
 use Rattle.wire.specs.Layout.{nullType, known}
-use Rattle.wire.specs.Content.{Content, nothing, word, bytes, Cell, Row}
+use Rattle.wire.specs.Content.{nothing, word, bytes, Cell, Row}
 use Rattle.wire.proofs.TypeLaws.{scalar-yes, blob-yes, blob-low}
-use Rattle.text_form.specs.Form.{tab, lineFeed}
-use Rattle.text_form.specs.Walk.{Phase, number, digits, full, State, at, cellOf}
-use Rattle.text_steps.specs.Tables.{blobOf, blobs, allCells, areaBytes, fourthWord, fifthWord, entriesFrom}
-use Rattle.text_steps.specs.Reading.{from, opened, EndsThere, behindValue}
+use Rattle.text_form.specs.Form.{lineFeed}
+use Rattle.text_form.specs.Walk.{Phase, number, digits, full, at, cellOf}
+use Rattle.text_steps.specs.Tables.{fourthWord, fifthWord, entriesFrom}
+use Rattle.text_steps.specs.Reading.{from, opened, EndsThere}
 use Rattle.text_read.specs.Stages.{Has, HasWord, ReadsWord, ReadsHead, HasBlob, CopiesUnits, HasContent, ReadsContent, HasValue, FillsValue}
 use Rattle.text_read.specs.declared.fill.Head.{Head}
 use Rattle.text_read.specs.declared.fill.Copied.{Copied}
 use Rattle.text_read.specs.declared.fill.Payload.{Payload}
-use Rattle.text_read.specs.declared.fill.Value.{Value}
 use Rattle.text_steps.proofs.AheadLaws.{cellsSoFar, within-end}
 use Rattle.text_steps.proofs.ReadLaws as reads
 

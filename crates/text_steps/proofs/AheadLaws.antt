@@ -1,22 +1,22 @@
 -- What was read so far is no more than what is read at the end: values, blob bytes and rows. Assumes nothing.
 use mathlib.Core.Path.{_≡_, refl, sym, _∙_, ap}
-use mathlib.Core.Bool.{Bool, true, false, not, _&&_}
+use mathlib.Core.Bool.{Bool, true, false, _&&_}
 use mathlib.Core.List.{List, [], _∷_, _++_}
-use mathlib.Core.Logic.{_⊎_, inl, inr}
+use mathlib.Core.Logic.{_⊎_}
 use Prim.Native.Nat.{ℕ, zero, suc, _+_, _-_, _*_, _≤_}
 use native.Mathlib.Omega.{arith}
 use lib.ListN.{length, drop, length-append}
 use Rattle.words.specs.Answer.{Answer}
 use Rattle.words.specs.Decide.{pick, _<?_, _=?_}
 use Rattle.words.proofs.DecideLaws.{pick-case}
-use Rattle.places.specs.Machine.{Move, on, off, Machine, Ending, read, stopped, behind, run}
+use Rattle.places.specs.Machine.{Move, on, off, read, behind, run}
 use Rattle.places.proofs.Ways.{After}
 use Rattle.places.proofs.MachineLaws.{read-not-stopped}
 use Rattle.wire.specs.Layout.{nullType, scalar, blob}
 use Rattle.wire.specs.Content.{Content, nothing, word, bytes, Cell, Row, null, values}
 use Rattle.text_form.specs.Form.{escaped}
-use Rattle.text_form.specs.Walk.{Phase, fresh, number, letter, digits, full, percent, second, State, hash, at, Go, cellOf, typeOf, smallValue, capitalValue, fitsWord, fitsHigh, behindDigit, onward, step, close}
-use Rattle.text_form.specs.Limits.{asked, passed, over, walkWithin}
+use Rattle.text_form.specs.Walk.{Phase, fresh, number, letter, digits, full, percent, second, State, hash, at, Go, cellOf, typeOf, smallValue, capitalValue, fitsWord, fitsHigh, onward, step, close}
+use Rattle.text_form.specs.Limits.{asked, over, walkWithin}
 use Rattle.text_steps.specs.Tables.{blobOf, blobs, cellsOf, allCells, areaBytes}
 use Rattle.text_steps.specs.Reading.{from}
 use Rattle.text_steps.proofs.SizeLaws.{blobs-snoc, blobs-join, cells-join}
@@ -68,16 +68,6 @@ Ahead q x = After (Grows q) x
 
 ahead : (q : State) (test : Bool) (x y : Go) → (test ≡ true → Ahead q x) → (test ≡ false → Ahead q y) → Ahead q (pick test x y)
 ahead q test x y = pick-case test x y (Ahead q)
-
-begun-most : (cells : List Cell) (p : Phase) → begun p ≤ rowBegun cells p
-begun-most [] p = omega arith
-begun-most (c ∷ cells) fresh = omega arith
-begun-most (c ∷ cells) (number n) = omega arith
-begun-most (c ∷ cells) (letter id aggregate) = omega arith
-begun-most (c ∷ cells) (digits id aggregate type k w) = omega arith
-begun-most (c ∷ cells) (full d) = omega arith
-begun-most (c ∷ cells) (percent id aggregate type t) = omega arith
-begun-most (c ∷ cells) (second id aggregate type t h) = omega arith
 
 -- within a value
 inside : (rows : List Row) (cells : List Cell) (p p′ : Phase) → begun p ≤ begun p′ → blobSoFar p ≤ blobSoFar p′ → Grows (at rows cells p) (at rows cells p′)

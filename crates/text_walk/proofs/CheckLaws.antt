@@ -1,29 +1,29 @@
 -- How the stages of the walk go on and stop: an id, a head, a scalar, a blob, a value, a line. Assumes nothing.
 use mathlib.Core.Path.{_≡_, refl, sym, _∙_, ap}
-use mathlib.Core.Bool.{Bool, true, false, not, _&&_, _||_, true≢false}
-use mathlib.Core.List.{List, [], _∷_, _++_, append-nil}
+use mathlib.Core.Bool.{Bool, true, false, _||_, true≢false}
+use mathlib.Core.List.{List, [], _∷_, _++_}
 use mathlib.Core.Logic.{_⊎_, inl, inr, ⊎-elim}
-use Prim.Native.Nat.{ℕ, zero, suc, _+_, _-_, _*_, _<_, _≤_}
+use Prim.Native.Nat.{ℕ, suc, _+_, _-_, _*_, _<_, _≤_}
 use native.Mathlib.Omega.{arith}
-use borrow.Author.Tests.{eqb-true, eqb-false, ltb-true, ne-eqb}
-use lib.ListN.{length, getD, drop, length-append, List·getD-eq-default}
-use Rattle.words.specs.Answer.{Answer, accepted, refuse}
-use Rattle.words.specs.Decide.{pick, _<?_, _=?_}
-use Rattle.words.proofs.DecideLaws.{le-or-gt, pick-case}
+use borrow.Author.Tests.{eqb-true, eqb-false, ne-eqb}
+use lib.ListN.{length, getD, length-append, List·getD-eq-default}
+use Rattle.words.specs.Answer.{accepted, refuse}
+use Rattle.words.specs.Decide.{_=?_}
+use Rattle.words.proofs.DecideLaws.{le-or-gt}
 use Rattle.text_form.proofs.TextLaws.{not-true}
 use Rattle.places.specs.Machine.{on, off, read, stopped}
 use Rattle.wire.specs.Layout.{nullType, known, scalar, blob, maxRows, maxValues, maxLength, maxSize, padded}
-use Rattle.wire.specs.Content.{Content, nothing, word, bytes, Cell, Row, null, values, cellBytes, cellsBytes, rowBytes, bytesOfRows}
+use Rattle.wire.specs.Content.{nothing, word, bytes, Cell, Row, null, values, cellBytes, cellsBytes, bytesOfRows}
 use Rattle.wire.proofs.TypeLaws.{scalar-yes, blob-yes, blob-low}
 use Rattle.wire.specs.declared.error.WireError.the-variants.{TooManyRows, TooManyValues, ValueTooLong, RowsetTooLarge}
 use Rattle.text_form.specs.Form.{tab, lineFeed, nullSign, colon, aggregateSign, percentSign, escaped}
 use Rattle.text_form.specs.Walk.{Phase, fresh, number, letter, digits, full, percent, second, State, hash, at, cellOf, typeOf, smallValue, capitalValue, fitsWord, fitsHigh, behindDigit, start}
-use Rattle.text_form.specs.Limits.{asking, beginning, sizeWith, walkWithin}
+use Rattle.text_form.specs.Limits.{sizeWith, walkWithin}
 use Rattle.text_steps.specs.Tables.{blobOf, blobs, cellsOf, allCells, areaBytes}
 use Rattle.text_walk.specs.Statement.{walking, endingAs, counts, counting, Counts}
 use Rattle.text_walk.specs.Paper.{textPaper}
-use Rattle.text_steps.specs.Reading.{isDigit, Reading, from, badAt, opened, Signless, EndsThere, Closed, Settled, behindValue}
-use Rattle.text_walk.specs.Stages.{StopsBy, IdChecks, LetterChecks, HeadChecks, WordChecks, EscapeChecks, UnitsCheck, EndChecks, Wholly, Breaks, Checks, ScalarChecks, BlobChecks, ValueChecks, Wholes, LineFrom, ValuesCheck, NullChecks, LineChecks}
+use Rattle.text_steps.specs.Reading.{isDigit, Reading, from, opened, Closed, Settled, behindValue}
+use Rattle.text_walk.specs.Stages.{StopsBy, IdChecks, LetterChecks, HeadChecks, WordChecks, EscapeChecks, UnitsCheck, EndChecks, Wholly, Checks, ScalarChecks, BlobChecks, ValueChecks, Wholes, ValuesCheck, NullChecks, LineChecks}
 use Rattle.text_walk.specs.declared.error.TextError.{TextError}
 use Rattle.text_walk.specs.declared.error.TextError.the-variants.{BadText, Limit}
 use Rattle.text_walk.specs.declared.check.Step.{Step}

@@ -1,15 +1,14 @@
 -- Laws of the walk. What is still to come of it is all that its contract speaks of. Assumes nothing.
-use mathlib.Core.Path.{_≡_, refl, sym, _∙_, ap, subst}
-use mathlib.Core.List.{List, [], _∷_, _++_, append-assoc}
-use Prim.Native.Nat.{ℕ, zero, suc, _+_, _-_, _*_, _<_, _≤_}
+use mathlib.Core.Path.{_≡_, refl, sym, _∙_, ap}
+use mathlib.Core.List.{List, _++_, append-assoc}
+use Prim.Native.Nat.{ℕ, zero, suc, _+_, _-_, _<_, _≤_}
 use native.Mathlib.Nat.{sub-zero}
 use native.Mathlib.Omega.{arith}
 use lib.ListN.{length}
 use borrow.Author.Tests.{lt-ltb, le-ltb, ne-eqb}
-use Rattle.words.specs.Decide.{Line, decide}
-use Rattle.words.specs.Note.{Told, number}
+use Rattle.words.specs.Decide.{decide}
+use Rattle.words.specs.Note.{number}
 use Rattle.wire.specs.Layout.{nullMark, maxRows, maxValues, valuesIn, countAt, nextValue, nextValues, nextRow, nextRows}
-use Rattle.wire.proofs.LayoutLaws.{nextValues-more, nextRows-more}
 use Rattle.wire_value.specs.ValueOrder.{valueLines}
 use Rattle.wire_read.specs.Reading.{valuesLines, countLines, rowsLines, headLines, endLines, endOf, inputLines}
 use Rattle.words.proofs.DecideLaws.{decide-append}
@@ -19,7 +18,7 @@ use Rattle.finding.specs.declared.Finding.{Finding}
 use Rattle.finding.specs.declared.Finding.the-variants.{Fine}
 use Rattle.why_rowset.specs.Plain.{plainValueLines, plainValuesLines, plainRowsLines, plainLines}
 use Rattle.why_rowset.specs.Checks.{rowsetChecks, ExplainsRowset}
-use Rattle.why_rowset.specs.Stages.{firstly, Keeps, Quiet, Tell, Checks, Goes, WalksValue, WalksValues, WalksRow, WalksRowsFrom, WalksRows, WalksRowset}
+use Rattle.why_rowset.specs.Stages.{Keeps, Quiet, Tell, Checks, Goes, WalksValue, WalksValues, WalksRow, WalksRowsFrom, WalksRows, WalksRowset}
 use Rattle.why_rowset.specs.declared.value.Checked.{Checked}
 use Rattle.why_rowset.specs.declared.value.Checked.the-variants as Checked
 use Rattle.why_rowset.specs.declared.walk.Walked.{Walked}
@@ -178,9 +177,6 @@ module _ (s : List ℕ) where
       module _ (end : ℕ) (plain : Finding) (e : r ≡ At end plain) where
         rows-passed : WalksRowsFrom s (countAt s 0) 0 8 Fine (At end plain)
         rows-passed = let here : WalksRows s count (At end plain) = rw e at walks in rw is at here
-
-        pub rowset-within : end ≤ length s
-        rowset-within = rows-passed .1
 
         pub rowset-trailing : (finding : Finding) → end < length s → meaning finding ≡ refusing 15 "trailing-bytes" end (length s - end) (number 0) → WalksRowset s (Found finding)
         unfolding inputLines

@@ -172,9 +172,6 @@ module _ (s : List ℕ) where
           rw (sub-zero (length s), le-ltb (length s) 8 room, ← is, le-ltb maxRows count few) (stopped _)
 
       module _ (end values : ℕ) (e : r ≡ At end values) where
-        pub rowset-within : end ≤ length s
-        rowset-within = let passed : WalksRows s count 0 8 (At end values) = rw e at walks in passed .2
-
         pub rowset-trailing : end < length s → WalksRowset s (Stopped (TrailingBytes (length s - end)))
         unfolding readRowset headOrder
         rowset-trailing h rest =

@@ -9,8 +9,8 @@ use lib.IntN.{ℤ, pos, negsuc, _-ℤ_}
 use mir.Syntax.{w64}
 use mir.Val.{SFits, sel, toZ, ofZ}
 use mir.Facts.{sfits-toZ, toZ-ofZ}
-use lib.Ieee.{Float, nan, inf, fin, binary64, ofBits, toBits, nanBits, isNan}
-use lib.Ieee.Bits.{nanBits-is, nanBits-above, toBits-ofBits}
+use lib.Ieee.{Float, nan, inf, fin, binary64, ofBits, nanBits, isNan}
+use lib.Ieee.Bits.{nanBits-is, nanBits-above}
 use borrow.Author.Tests.{lt-ltb, le-ltb}
 use Rattle.words.specs.Decide.{pick}
 use Rattle.wire_value.specs.ValueOf.{signed}
@@ -32,10 +32,6 @@ no-nan bits h = nanBits-above binary64 bits ∙ le-ltb _ _ h
 
 pub no-nan-not : (bits : ℕ) → bits % 0x8000_0000_0000_0000 ≤ 0x7ff0_0000_0000_0000 → T (not (nanBits binary64 bits))
 no-nan-not bits h = rw (no-nan bits h) tt
-
--- a word that is no NaN's pattern is kept by its float
-pub double-keeps : (bits : ℕ) → bits < 2 ^ 64 → nanBits binary64 bits ≡ false → toBits binary64 (ofBits binary64 bits) ≡ bits
-double-keeps bits h e = toBits-ofBits binary64 bits h (rw (← nanBits-is binary64 bits, e) tt)
 
 -- two's complement is how the machine reads signed bits
 signed-is : (bits : ℕ) → toZ w64 bits ≡ signed bits

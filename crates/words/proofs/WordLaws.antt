@@ -1,11 +1,11 @@
 -- Laws of words and bytes, each over the width. Assumes nothing.
 use mathlib.Core.Path.{_≡_, refl, sym, _∙_, ap}
-use mathlib.Core.List.{List, [], _∷_, _++_}
+use mathlib.Core.List.{List, _∷_, _++_}
 use Prim.Native.Nat.{ℕ, zero, suc, _+_, _*_, _/_, _%_, _^_, _<_, _≤_, _-_}
 use native.Mathlib.Nat.{zero-add, add-zero, add-assoc, suc-add, one-mul, mul-assoc, pow-succ', mod-one, mod-eq-of-lt, div-eq-of-lt, mod-lt, div-div-eq-div-mul, mod-add-div, add-mul-mod-self-left, add-mul-div-left, add-comm, div-one}
 use native.Mathlib.Numerals.{add-one}
 use native.Mathlib.Omega.{arith}
-use lib.ListN.{length, getD, take, drop, List·getD-eq-default, List·getD-append}
+use lib.ListN.{length, getD, take, drop, List·getD-eq-default}
 use lib.Seq.{drop-cons, getD-drop, getD-take, getD-append-add}
 use Rattle.words.specs.Word.{word, bytesOf, Bytes}
 
@@ -93,16 +93,16 @@ word-bytesOf (suc k) n t =
 pub word-behind : (k : ℕ) (p s : List ℕ) (at : ℕ) → word k (p ++ s) (length p + at) ≡ word k s at
 word-behind k p s at = word-same k (p ++ s) s (length p + at) at (λ i h. rw (add-assoc (length p) at i, getD-append-add p s (at + i) 0))
 
--- a word that lies in s does not see what stands behind s
-pub word-before : (k : ℕ) (s t : List ℕ) (at : ℕ) → at + k ≤ length s → word k (s ++ t) at ≡ word k s at
-word-before k s t at h = word-same k (s ++ t) s at at (λ i below. List·getD-append s t 0 (at + i) (omega arith))
-
 -- a word of a stretch
 pub word-drop : (k n : ℕ) (s : List ℕ) (at : ℕ) → word k (drop n s) at ≡ word k s (n + at)
 word-drop k n s at = word-same k (drop n s) s at (n + at) (λ i h. rw (add-assoc n at i, getD-drop n s (at + i) 0))
 
 pub word-take : (k n : ℕ) (s : List ℕ) (at : ℕ) → at + k ≤ n → word k (take n s) at ≡ word k s at
 word-take k n s at h = word-same k (take n s) s at at (λ i below. getD-take n s (at + i) 0 (omega arith))
+
+-- the bytes of a word, lent by themselves, have the word that stands at their place
+pub word-lent : (k : ℕ) (s : List ℕ) (at : ℕ) {w : ℕ} → w ≡ word k (take (at + k - at) (drop at s)) 0 → w ≡ word k s at
+word-lent k s at e = e ∙ word-take k (at + k - at) (drop at s) 0 (omega arith) ∙ word-drop k at s 0 ∙ ap (word k s) (add-zero at)
 
 -- the bytes of a number of j + k bytes: those of its low j, then those of what is above
 pub bytesOf-split : (j k n : ℕ) → bytesOf (j + k) n ≡ bytesOf j n ++ bytesOf k (n / 256 ^ j)
@@ -127,11 +127,6 @@ bytesOf-join j k a b h =
     let low : (a + 256 ^ j * b) % 256 ^ j ≡ a = add-mul-mod-self-left a (256 ^ j) b ∙ mod-eq-of-lt h in
     let high : (a + 256 ^ j * b) / 256 ^ j ≡ b = add-mul-div-left a b (pow-pos j) ∙ ap (λ (q : ℕ). q + b) (div-eq-of-lt h) ∙ zero-add b in
     bytesOf-split j k (a + 256 ^ j * b) ∙ rw (← bytesOf-mod j (a + 256 ^ j * b), low, high)
-
--- a number of so many bytes is told by them
-pub bytesOf-injective : (k a b : ℕ) → a < 256 ^ k → b < 256 ^ k → bytesOf k a ≡ bytesOf k b → a ≡ b
-bytesOf-injective k a b ha hb same =
-    sym (mod-eq-of-lt ha) ∙ sym (word-bytesOf k a []) ∙ ap (λ (s : List ℕ). word k (s ++ []) 0) same ∙ word-bytesOf k b [] ∙ mod-eq-of-lt hb
 
 -- two halves of j bytes are a word of twice as many
 pub word-halves : (j : ℕ) (s : List ℕ) (at : ℕ) {low high : ℕ} → low ≡ word j s at → high ≡ word j s (at + j) → low + 256 ^ j * high ≡ word (j + j) s at

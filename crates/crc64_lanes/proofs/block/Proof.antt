@@ -10,9 +10,10 @@ use borrow.Author.Needs.{needs}
 use borrow.Rule.Slice.PartMut.{putMid}
 use Rattle.words.specs.Word.{Bytes}
 use Rattle.words.specs.Filling.{Filling}
+use Rattle.words.proofs.WordLaws.{word-lent}
 use Rattle.crc64_lanes.specs.Stages.{waits}
 use Rattle.crc64_lanes.proofs.Braid.{queue, begun, one-lane, all-four}
-use Rattle.crc64_lanes.proofs.Copied.{word-there, next-put}
+use Rattle.crc64_lanes.proofs.Copied.{next-put}
 use Rattle.crc64_lanes.proofs.block.Statement.{statement}
 use Rattle.crc64_lanes.proofs.block.Tie as tie
 
@@ -117,7 +118,7 @@ loop-again c =
     let s : List ℕ = a .bytes .now in
     let at = c .before .before .before .before .before .before .before .before .before .loop in
     let bytes : Bytes s = λ n. known .shared-slice-known .given n .fits in
-    let loaded = word-there s (a .i + 8 * at .l) (c .before .before .before .before .before .before .read-u64 .ensures) in
+    let loaded = word-lent 8 s (a .i + 8 * at .l) (c .before .before .before .before .before .before .read-u64 .ensures) in
     let to : ℕ = a .at + 8 * at .l in (
       search needs,
       length-set (at .lanes) (at .l) (c .far .result) ∙ at .inv .1,

@@ -4,7 +4,6 @@ use mathlib.Core.Logic.{inl, inr}
 use native.Mathlib.Omega.{arith}
 use lib.ListN.{length}
 use Rattle.text_read.proofs.CopyLaws.{UnitsLeft, units-begin, unit-there, same-area, units-end, escape-has, escape-room, escape-within, escape-more, plain-room, plain-more}
-use borrow.Author.Needs.{needs}
 use Rattle.text_read.proofs.fill.copy_units.Statement.{statement}
 use Rattle.text_read.proofs.fill.copy_units.Tie as tie
 

@@ -3,7 +3,6 @@ use Prim.Native.Nat.{_-_}
 use native.Mathlib.Omega.{arith}
 use lib.ListN.{length}
 use Rattle.text_read.proofs.TextLaws.{TextLeft, text-begins, same-rows, same-values, same-area, text-ends, line-has, line-passed, row-room, text-more}
-use borrow.Author.Needs.{needs}
 use Rattle.text_read.proofs.fill.fill_text.Statement.{statement}
 use Rattle.text_read.proofs.fill.fill_text.Tie as tie
 

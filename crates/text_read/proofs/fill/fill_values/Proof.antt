@@ -3,7 +3,6 @@ use Prim.Native.Nat.{_-_}
 use native.Mathlib.Omega.{arith}
 use lib.ListN.{length}
 use Rattle.text_read.proofs.LineLaws.{ValuesLeft, values-begin, same-values, same-area, value-there, value-range, value-has, count-small, value-passed, values-same, area-same, values-more-left, values-end}
-use borrow.Author.Needs.{needs}
 use Rattle.text_read.proofs.fill.fill_values.Statement.{statement}
 use Rattle.text_read.proofs.fill.fill_values.Tie as tie
 

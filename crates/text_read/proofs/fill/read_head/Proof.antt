@@ -1,7 +1,6 @@
 -- `fill::read_head` meets its contract. Assumes nothing.
 use native.Mathlib.Omega.{arith}
 use Rattle.text_read.proofs.FillLaws.{head-there, sign-letter, head-signed, plain-letter, head-plain}
-use borrow.Author.Needs.{needs}
 use Rattle.text_read.proofs.fill.read_head.Statement.{statement}
 use Rattle.text_read.proofs.fill.read_head.Tie as tie
 

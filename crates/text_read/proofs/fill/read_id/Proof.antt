@@ -1,10 +1,8 @@
 -- `fill::read_id` meets its contract. The invariant: the reading is still in the id. Assumes nothing.
-use mathlib.Core.Path.{refl}
 use Prim.Native.Nat.{_-_}
 use native.Mathlib.Omega.{arith}
 use lib.ListN.{length}
 use Rattle.text_read.proofs.FillLaws.{IdLeft, id-there, id-colon, id-low, id-small, id-more}
-use borrow.Author.Needs.{needs}
 use Rattle.text_read.proofs.fill.read_id.Statement.{statement}
 use Rattle.text_read.proofs.fill.read_id.Tie as tie
 

@@ -1,5 +1,4 @@
 -- `check::check_blob` meets its contract. Assumes nothing.
-use mathlib.Core.Path.{sym, _∙_}
 use Rattle.wire.specs.Layout.{padded}
 use native.Mathlib.Omega.{arith}
 use Rattle.text_walk.proofs.CheckLaws.{blob-fails, units-inside, units-short, blob-ends}

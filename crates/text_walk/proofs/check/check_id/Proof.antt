@@ -5,7 +5,6 @@ use native.Mathlib.Omega.{arith}
 use lib.ListN.{length}
 use Rattle.text_walk.proofs.CheckLaws.{IdLeft, id-early, id-colon, id-stop, id-more}
 use Rattle.text_steps.proofs.StepLaws.{number-low, number-high, number-zero, number-over, number-more}
-use borrow.Author.Needs.{needs}
 use Rattle.text_walk.proofs.check.check_id.Statement.{statement}
 use Rattle.text_walk.proofs.check.check_id.Tie as tie
 

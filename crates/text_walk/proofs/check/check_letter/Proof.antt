@@ -1,5 +1,4 @@
 -- `check::check_letter` meets its contract. Assumes nothing.
-use mathlib.Core.Path.{_≡_, sym, _∙_}
 use native.Mathlib.Omega.{arith}
 use Rattle.wire.proofs.KindLaws.{kind-null, kind-scalar, kind-blob, kind-unknown}
 use Rattle.wire.proofs.TypeLaws.{known-scalar, known-blob}

@@ -1,5 +1,5 @@
 -- `check::check_line` meets its contract. Assumes nothing.
-use mathlib.Core.Path.{refl, sym, _∙_}
+use mathlib.Core.Path.{refl}
 use native.Mathlib.Omega.{arith}
 use borrow.Author.Tests.{not-true, not-false}
 use Rattle.text_walk.proofs.CheckLaws.{line-other, line-many, line-large, line-empty, line-null, line-digit}

@@ -1,5 +1,4 @@
 -- `check::check_null` meets its contract. Assumes nothing.
-use native.Mathlib.Omega.{arith}
 use Rattle.text_walk.proofs.CheckLaws.{null-early, null-other, null-whole}
 use borrow.Author.Needs.{needs}
 use Rattle.text_walk.proofs.check.check_null.Statement.{statement}

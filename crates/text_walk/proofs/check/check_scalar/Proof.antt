@@ -1,5 +1,4 @@
 -- `check::check_scalar` meets its contract. Assumes nothing.
-use native.Mathlib.Omega.{arith}
 use Rattle.text_walk.proofs.CheckLaws.{scalar-bad, word-inside, scalar-ends}
 use borrow.Author.Needs.{needs}
 use Rattle.text_walk.proofs.check.check_scalar.Statement.{statement}

@@ -1,10 +1,7 @@
 -- `check::digit_fits` meets its contract. Assumes nothing.
-use mathlib.Core.Path.{_≡_}
-use mathlib.Core.Bool.{Bool}
 use Prim.Native.Nat.{_-_}
 use native.Mathlib.Omega.{arith}
 use borrow.Author.Tests.{lt-ltb, le-ltb, eq-eqb, ne-eqb}
-use borrow.Author.Needs.{needs}
 use Rattle.text_walk.proofs.check.digit_fits.Statement.{statement}
 use Rattle.text_walk.proofs.check.digit_fits.Tie as tie
 

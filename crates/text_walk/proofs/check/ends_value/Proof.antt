@@ -1,6 +1,5 @@
 -- `check::ends_value` meets its contract. Assumes nothing.
-use borrow.Author.Tests.{lt-ltb, le-ltb, eq-eqb, ne-eqb}
-use borrow.Author.Needs.{needs}
+use borrow.Author.Tests.{eq-eqb, ne-eqb}
 use Rattle.text_walk.proofs.check.ends_value.Statement.{statement}
 use Rattle.text_walk.proofs.check.ends_value.Tie as tie
 

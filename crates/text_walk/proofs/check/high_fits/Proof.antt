@@ -1,6 +1,5 @@
 -- `check::high_fits` meets its contract. Assumes nothing.
-use borrow.Author.Tests.{lt-ltb, le-ltb, eq-eqb, ne-eqb}
-use borrow.Author.Needs.{needs}
+use borrow.Author.Tests.{lt-ltb, le-ltb}
 use Rattle.text_walk.proofs.check.high_fits.Statement.{statement}
 use Rattle.text_walk.proofs.check.high_fits.Tie as tie
 

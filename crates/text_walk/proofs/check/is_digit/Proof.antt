@@ -1,6 +1,5 @@
 -- `check::is_digit` meets its contract. Assumes nothing.
-use borrow.Author.Tests.{lt-ltb, le-ltb, eq-eqb, ne-eqb}
-use borrow.Author.Needs.{needs}
+use borrow.Author.Tests.{lt-ltb, le-ltb}
 use Rattle.text_walk.proofs.check.is_digit.Statement.{statement}
 use Rattle.text_walk.proofs.check.is_digit.Tie as tie
 
