@@ -7,7 +7,7 @@ use native.Mathlib.Nat.{zero-add, add-zero, add-assoc}
 use Rattle.words.specs.Decide.{pick, _=?_}
 use Rattle.field.specs.Field.{numberAt}
 use Rattle.error_tree.specs.Message.{dictionaryFields, inside}
-use Rattle.error_tree.specs.Tree.{Parts, none, inner, dictionary, fieldParts, partsWith, innerPart, parts, errorCount, attributeCount}
+use Rattle.error_tree.specs.Tree.{Parts, none, attribute, inner, dictionary, fieldParts, partsWith, innerPart, parts, errorCount, attributeCount}
 use Rattle.error_walk.specs.Stages.{sumOf, no, entryCount, innerErrors, innerAttributes}
 use Rattle.error_tree.proofs.TreeLaws.{dictionary-errors}
 
@@ -15,6 +15,11 @@ pub sum-no : (fs : List ℕ) → sumOf no fs ≡ 0
 unfolding sumOf
 sum-no [] = refl
 sum-no (f ∷ fs) = zero-add (sumOf no fs) ∙ sum-no fs
+
+pick-attributes : (b : Bool) (k kl v vl : ℕ) (p : Parts) → attributeCount (pick b (attribute k kl v vl p) p) ≡ pick b 1 0 + attributeCount p
+unfolding attributeCount
+pick-attributes true k kl v vl p = refl
+pick-attributes false k kl v vl p = sym (zero-add (attributeCount p))
 
 pub dictionary-attributes : (s fs : List ℕ) (more : Parts) → attributeCount (dictionary s fs more) ≡ sumOf (entryCount s) fs + attributeCount more
 unfolding attributeCount dictionary sumOf
