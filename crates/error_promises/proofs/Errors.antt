@@ -2,24 +2,26 @@
 use mathlib.Core.Path.{_≡_, refl, sym, _∙_, ap}
 use mathlib.Core.List.{List, [], _∷_, _++_, List·Memᴰ, List·Memᴰ·head, List·Memᴰ·tail}
 use mathlib.Core.Logic.{⊎-elim}
-use Prim.Native.Nat.{ℕ, _/_, _<_, _≤_}
+use Prim.Native.Nat.{ℕ, _/_, _%_, _<_, _≤_}
 use native.Mathlib.Omega.{arith}
 use borrow.Author.Tests.{lt-ltb, le-ltb, eq-eqb, ne-eqb}
-use lib.ListN.{length}
+use lib.ListN.{length, getD}
 use Rattle.words.specs.Answer.{Answer, accepted}
 use Rattle.words.specs.Decide.{decide, pick, _=?_}
 use Rattle.words.proofs.AnswerLaws.{refused-not-accepted}
 use Rattle.words.proofs.DecideLaws.{le-or-gt}
-use Rattle.field.specs.Field.{numberAt}
-use Rattle.error_tree.specs.Message.{errorFields, latest}
-use Rattle.error_tree.specs.Tree.{Parts, tree, errorCount, attributeCount, partsWith, fieldParts}
+use Rattle.words.specs.Buffer.{over}
+use Rattle.field.specs.Field.{numberAt, valueAt, contentAt}
+use Rattle.error_tree.specs.Message.{errorFields, fields, latest}
+use Rattle.error_tree.specs.Tree.{Parts, tree, codeOf, placeOf, lengthOf, errorCount, attributeCount, errorWords, partsWith, fieldParts}
 use Rattle.error_tree.specs.Reading.{errorEntry, attributeEntry, roomOrder, reading}
 use Rattle.error_tree.specs.declared.refusal.ErrorRefusal.the-variants.{BadMessage, ErrorsTooDeep, BadTable, NoRoom}
 use Rattle.error_read.specs.Paper.{decodedPaper}
+use Rattle.error_read.specs.Statement.{Decodes}
 use Rattle.error_read.specs.declared.decode.Decoded.the-variants.{Read}
 use Rattle.error_read.proofs.Unique.{decoded-told}
 use Rattle.error_promises.specs.Form.{WellFormed}
-use Rattle.error_promises.specs.Errors.{Roomy, ErrorAcceptsExactly, ErrorTablesKeep, ErrorOutputKeeps, LastCounts, UnknownAddsNothing}
+use Rattle.error_promises.specs.Errors.{Roomy, ErrorAcceptsExactly, ErrorTablesKeep, ErrorOutputKeeps, LastCounts, LastIsStored, UnknownAddsNothing}
 use Rattle.error_promises.proofs.Form.{error-exact}
 
 -- the room behind the checks: the counts exactly where the tables hold them
@@ -79,6 +81,10 @@ error-output-keeps area errors attributes out out′ (ErrorsTooDeep place) encod
 error-output-keeps area errors attributes out out′ (BadTable rule position) encodes = rw (← encodes .0) at (encodes .1)
 error-output-keeps area errors attributes out out′ (NoRoom short) encodes = rw (← encodes .0) at (encodes .1)
 
+-- the fields of the outermost error
+abbrev outermost : List ℕ → List ℕ
+outermost s = fields errorFields s 0 (length s)
+
 latest-none : (f : ℕ → ℕ) (number : ℕ) (s gs : List ℕ) (d : ℕ) → ((g : ℕ) → List·Memᴰ g gs → numberAt s g ≡ number → ⊥) → latest f number s gs d ≡ d
 unfolding latest
 latest-none f number s [] d none = refl
@@ -92,6 +98,24 @@ last-counts f number s [] gs at d is none =
     let here : pick (numberAt s at =? number) (f at) d ≡ f at = rw (eq-eqb (numberAt s at) number is) in
     ap (λ (x : ℕ). latest f number s gs x) here ∙ latest-none f number s gs (f at) none
 last-counts f number s (x ∷ fs) gs at d is none = last-counts f number s fs gs at _ is none
+
+-- the first entry of a table that errors were read into
+first-entry : (s errors attributes errors′ attributes′ : List ℕ) (n m : ℕ) → Decodes s errors attributes (Read n m) errors′ attributes′
+    → (getD errors′ 0 0 ≡ codeOf s (outermost s)) × (getD errors′ 2 0 ≡ placeOf 2 s (outermost s)) × (getD errors′ 3 0 ≡ lengthOf 2 s (outermost s))
+unfolding errorWords tree
+first-entry s errors attributes errors′ attributes′ n m decodes =
+    let all : errors′ ≡ over (errorWords 1 (tree s)) errors = rw (← decodes .0) at (decodes .1) in
+    (ap (λ (t : List ℕ). getD t 0 0) all, ap (λ (t : List ℕ). getD t 2 0) all, ap (λ (t : List ℕ). getD t 3 0) all)
+
+pub last-is-stored : LastIsStored
+last-is-stored s errors attributes errors′ attributes′ n m decodes fs gs at split none =
+    let first = first-entry s errors attributes errors′ attributes′ n m decodes in
+    let last : (f : ℕ → ℕ) (number : ℕ) → numberAt s at ≡ number → latest f number s (outermost s) 0 ≡ f at =
+    λ (f : ℕ → ℕ) (number : ℕ) (is : numberAt s at ≡ number). ap (λ (t : List ℕ). latest f number s t 0) split
+    ∙ last-counts f number s fs gs at 0 is (λ g m e. none g m (e ∙ sym is)) in (
+      λ is. first .0 ∙ ap (λ (x : ℕ). x % 0x1_0000_0000) (last (valueAt s) 1 is),
+      λ is. (first .1 ∙ last (contentAt s) 2 is, first .2 ∙ last (valueAt s) 2 is),
+    )
 
 unknown-parts : (s fs gs : List ℕ) (at : ℕ) → errorFields < numberAt s at → (deeper : ℕ → Parts → Parts) → partsWith deeper s (fs ++ (at ∷ gs)) ≡ partsWith deeper s (fs ++ gs)
 unfolding partsWith fieldParts

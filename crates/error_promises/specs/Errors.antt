@@ -1,12 +1,12 @@
 -- The promises of reading and writing errors: what is accepted and what is written, that a refusal changes nothing,
 -- which field counts. Assumes nothing.
-use Prim.Native.Nat.{ℕ, _≤_, _/_, _<_}
+use Prim.Native.Nat.{ℕ, _≤_, _/_, _%_, _<_}
 use mathlib.Core.Path.{_≡_}
 use mathlib.Core.List.{List, _∷_, _++_, List·Memᴰ}
-use lib.ListN.{length}
+use lib.ListN.{length, getD}
 use Rattle.words.specs.Decide.{Silent}
-use Rattle.field.specs.Field.{numberAt}
-use Rattle.error_tree.specs.Message.{errorFields, latest}
+use Rattle.field.specs.Field.{numberAt, valueAt, contentAt}
+use Rattle.error_tree.specs.Message.{errorFields, fields, latest}
 use Rattle.error_tree.specs.Tree.{Parts, tree, errorCount, attributeCount, partsWith}
 use Rattle.error_tree.specs.Reading.{errorEntry, attributeEntry}
 use Rattle.error_tree.specs.declared.refusal.ErrorRefusal.{ErrorRefusal}
@@ -62,6 +62,17 @@ LastCounts =
     (f : ℕ → ℕ) (number : ℕ) (s fs gs : List ℕ) (at d : ℕ) → numberAt s at ≡ number
     → ((g : ℕ) → List·Memᴰ g gs → numberAt s g ≡ number → ⊥)
     → latest f number s (fs ++ (at ∷ gs)) d ≡ f at
+
+-- So of what `decode_error` stores of the outermost error, which is the first entry: the last code, its low 32 bits,
+-- and where the last text stands and how long it is
+abbrev pub LastIsStored : Type 0
+LastIsStored =
+    (s errors attributes errors′ attributes′ : List ℕ) (n m : ℕ)
+    → Decodes s errors attributes (Read n m) errors′ attributes′
+    → (fs gs : List ℕ) (at : ℕ) → fields errorFields s 0 (length s) ≡ fs ++ (at ∷ gs)
+    → ((g : ℕ) → List·Memᴰ g gs → numberAt s g ≡ numberAt s at → ⊥)
+    → (numberAt s at ≡ 1 → getD errors′ 0 0 ≡ valueAt s at % 0x1_0000_0000)
+    × (numberAt s at ≡ 2 → (getD errors′ 2 0 ≡ contentAt s at) × (getD errors′ 3 0 ≡ valueAt s at))
 
 -- a field that an error does not know adds nothing to it, wherever it stands among the others
 abbrev pub UnknownAddsNothing : Type 0
