@@ -1,9 +1,9 @@
--- `decode::decoded_outcome` meets its contract, case by case. Assumes nothing.
+-- `decoded_outcome` meets its contract, case by case. Assumes nothing.
 use Rattle.words.proofs.PaperLaws.{case}
 use Rattle.error_read.specs.Paper.{decodedPaper}
 use borrow.Author.Needs.{needs}
-use Rattle.error_read.proofs.decode.decoded_outcome.Statement.{statement}
-use Rattle.error_read.proofs.decode.decoded_outcome.Tie as tie
+use Rattle.face_errors.proofs.decoded_outcome.Statement.{statement}
+use Rattle.face_errors.proofs.decoded_outcome.Tie as tie
 
 enum-known-answer : tie.Need-enum-known-answer
 enum-known-answer c = search needs

@@ -1,9 +1,9 @@
--- `write::encoded_outcome` meets its contract. Assumes nothing.
-use Rattle.error_write.specs.Paper.{encodedPaper}
+-- `measured_outcome` meets its contract. Assumes nothing.
+use Rattle.error_write.specs.Paper.{measuredPaper}
 use Rattle.words.proofs.PaperLaws.{case}
 use borrow.Author.Needs.{needs}
-use Rattle.error_write.proofs.write.encoded_outcome.Statement.{statement}
-use Rattle.error_write.proofs.write.encoded_outcome.Tie as tie
+use Rattle.face_errors.proofs.measured_outcome.Statement.{statement}
+use Rattle.face_errors.proofs.measured_outcome.Tie as tie
 
 enum-known-answer : tie.Need-enum-known-answer
 enum-known-answer c = search needs
@@ -18,13 +18,13 @@ refusal-outcome-requires : tie.Need-refusal-outcome-requires
 refusal-outcome-requires c κs = search needs
 
 returns : tie.Need-returns
-returns c = case encodedPaper (c .before .before .answer .given .1) (c .taken .ensures)
+returns c = case measuredPaper (c .before .before .answer .given .1) (c .taken .ensures)
 
 returns-2 : tie.Need-returns-2
-returns-2 c = case encodedPaper (c .before .before .answer2 .given .1) (c .refusal-outcome .ensures)
+returns-2 c = case measuredPaper (c .before .before .answer2 .given .1) (c .refusal-outcome .ensures)
 
-pub encoded-outcome-spec : {M : Type 1} → statement M
-encoded-outcome-spec =
+pub measured-outcome-spec : {M : Type 1} → statement M
+measured-outcome-spec =
     tie.close
     (tie.spec
     enum-known-answer
