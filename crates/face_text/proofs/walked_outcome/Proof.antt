@@ -1,9 +1,9 @@
--- `walk::walked_outcome` meets its contract. Assumes nothing.
+-- `walked_outcome` meets its contract. Assumes nothing.
 use Rattle.wire.proofs.PaperLaws.{case}
 use Rattle.text_walk.specs.Paper.{walkedPaper}
 use borrow.Author.Needs.{needs}
-use Rattle.text_walk.proofs.walk.walked_outcome.Statement.{statement}
-use Rattle.text_walk.proofs.walk.walked_outcome.Tie as tie
+use Rattle.face_text.proofs.walked_outcome.Statement.{statement}
+use Rattle.face_text.proofs.walked_outcome.Tie as tie
 
 enum-known-answer : tie.Need-enum-known-answer
 enum-known-answer c = search needs
@@ -14,8 +14,8 @@ taken-requires c κs = search needs
 enum-known-answer-2 : tie.Need-enum-known-answer-2
 enum-known-answer-2 c = search needs
 
-outcome-requires : tie.Need-outcome-requires
-outcome-requires c κs = search needs
+text-outcome-requires : tie.Need-text-outcome-requires
+text-outcome-requires c κs = search needs
 
 returns : tie.Need-returns
 returns c = case walkedPaper (c .before .before .answer .given .1) (c .taken .ensures)
@@ -30,6 +30,6 @@ walked-outcome-spec =
     enum-known-answer
     taken-requires
     enum-known-answer-2
-    outcome-requires
+    text-outcome-requires
     returns
     returns-2)

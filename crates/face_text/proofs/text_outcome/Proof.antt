@@ -1,9 +1,9 @@
--- `error::outcome` meets its contract. Assumes nothing.
+-- `text_outcome` meets its contract. Assumes nothing.
 use Rattle.wire.proofs.PaperLaws.{case}
 use Rattle.text_walk.specs.Paper.{textPaper}
 use borrow.Author.Needs.{needs}
-use Rattle.text_walk.proofs.error.outcome.Statement.{statement}
-use Rattle.text_walk.proofs.error.outcome.Tie as tie
+use Rattle.face_text.proofs.text_outcome.Statement.{statement}
+use Rattle.face_text.proofs.text_outcome.Tie as tie
 
 enum-known-error : tie.Need-enum-known-error
 enum-known-error c = search needs
@@ -23,8 +23,8 @@ returns c = case textPaper (c .before .before .error .given .1) (c .refusal .ens
 returns-2 : tie.Need-returns-2
 returns-2 c = search needs
 
-pub outcome-spec : {M : Type 1} → statement M
-outcome-spec =
+pub text-outcome-spec : {M : Type 1} → statement M
+text-outcome-spec =
     tie.close
     (tie.spec
     enum-known-error
