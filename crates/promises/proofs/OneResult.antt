@@ -3,8 +3,8 @@
 pub use Rattle.words.proofs.Unique.{read-u16-unique, read-u32-unique, read-u64-unique, write-u16-unique, write-u32-unique, write-u64-unique, write-bytes-unique, write-zeros-unique, taken-unique, unfinished-unique, refusal-unique, room-number-unique, no-room-unique}
 pub use Rattle.numerals.proofs.Unique.{hex-size-unique, write-hex-unique, decimal-size-unique, write-decimal-unique, digit-value-unique}
 pub use Rattle.crc64.proofs.Unique.{table-unique, swap-bytes-unique, fold-over-unique, fold-unique}
-pub use Rattle.guid.proofs.Unique.{Guid-from-parts-unique, Guid-parts-unique, Guid-from-halves-unique, Guid-halves-unique, Guid-is-null-unique, Guid-from-bytes-unique, Guid-write-unique, words-outcome-unique}
-pub use Rattle.guid_text.proofs.Unique.{text-size-unique, print-unique, parse-unique, printed-outcome-unique, parsed-outcome-unique}
+pub use Rattle.guid.proofs.Unique.{Guid-from-parts-unique, Guid-parts-unique, Guid-from-halves-unique, Guid-halves-unique, Guid-is-null-unique, Guid-from-bytes-unique, Guid-write-unique}
+pub use Rattle.guid_text.proofs.Unique.{text-size-unique, print-unique, parse-unique}
 pub use Rattle.packet.proofs.Unique.{type-number-unique, type-of-unique, refused-unique, is-retired-unique, has-variable-header-unique, contains-unique, is-null-unique, is-outside-unique, part-unique, part-checksum-unique}
 pub use Rattle.packet_read.proofs.Unique.{decode-with-unique, decode-unique, outcome-unique as decoded-outcome-unique}
 pub use Rattle.packet_check.proofs.Unique.{validate-unique, encoded-size-unique as packet-encoded-size-unique, validated-outcome-unique, measured-outcome-unique}

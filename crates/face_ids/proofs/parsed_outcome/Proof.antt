@@ -1,9 +1,9 @@
 -- `parsed_outcome` meets its contract, case by case. Assumes nothing.
 use Rattle.words.proofs.PaperLaws.{case}
 use Rattle.guid_text.specs.Paper.{parsedPaper}
 use borrow.Author.Needs.{needs}
-use Rattle.guid_text.proofs.parsed_outcome.Statement.{statement}
-use Rattle.guid_text.proofs.parsed_outcome.Tie as tie
+use Rattle.face_ids.proofs.parsed_outcome.Statement.{statement}
+use Rattle.face_ids.proofs.parsed_outcome.Tie as tie
 
 enum-known-answer : tie.Need-enum-known-answer
 enum-known-answer c = search needs
