@@ -1,14 +1,9 @@
 -- `listed_outcome` meets its contract, case by case. Assumes nothing.
 use Rattle.words.proofs.PaperLaws.{case}
 use Rattle.yson.specs.Paper.{faultPaper, paper}
 use borrow.Author.Needs.{needs}
-use Rattle.yson.proofs.listed_outcome.Statement.{statement}
-use Rattle.yson.proofs.listed_outcome.Tie as tie
-use Rattle.yson.proofs.listed_outcome.Reads as reads
-use Rattle.yson.proofs.listed_outcome.Lts as lts
-use Rattle.words.proofs.outcome.no_room.Reads as no-room-reads
-use Rattle.words.proofs.outcome.refusal.Reads as refusal-reads
-use Rattle.words.proofs.outcome.taken.Reads as taken-reads
+use Rattle.face_notes.proofs.listed_outcome.Statement.{statement}
+use Rattle.face_notes.proofs.listed_outcome.Tie as tie
 
 enum-known-answer : tie.Need-enum-known-answer
 enum-known-answer c = search needs
