@@ -11,7 +11,7 @@ pub use Rattle.packet_check.proofs.Unique.{validate-unique, encoded-size-unique
 pub use Rattle.packet_write.proofs.Unique.{encode-unique, outcome-unique as encoded-outcome-unique}
 pub use Rattle.wire.proofs.Unique.{values-in-unique, padded-unique, flag-unique, kind-of-unique, need-at-unique, outcome-unique as wire-error-outcome-unique}
 pub use Rattle.wire_value.proofs.Unique.{read-header-unique, check-value-unique, read-value-unique, outcome-unique as read-value-outcome-unique}
-pub use Rattle.wire_read.proofs.Unique.{decode-rowset-unique, is-plain-unique, outcome-unique as rowset-decoded-outcome-unique}
+pub use Rattle.wire_read.proofs.Unique.{decode-rowset-unique, is-plain-unique}
 pub use Rattle.wire_reader.proofs.Unique.{read-u64-at-unique, Reader-need-unique, Reader-read-u64-unique, Reader-read-value-unique}
 pub use Rattle.wire_check.proofs.Unique.{encoded-size-unique as rowset-encoded-size-unique, outcome-unique as rowset-measured-outcome-unique}
 pub use Rattle.wire_write.proofs.Unique.{encode-rowset-unique, outcome-unique as rowset-encoded-outcome-unique}

@@ -1,9 +1,9 @@
--- `rowset::outcome` meets its contract. Assumes nothing.
+-- `decoded_outcome` meets its contract. Assumes nothing.
 use Rattle.wire.proofs.PaperLaws.{case}
 use Rattle.wire_read.specs.Paper.{paperDecoded}
 use borrow.Author.Needs.{needs}
-use Rattle.wire_read.proofs.rowset.outcome.Statement.{statement}
-use Rattle.wire_read.proofs.rowset.outcome.Tie as tie
+use Rattle.face_rowsets.proofs.decoded_outcome.Statement.{statement}
+use Rattle.face_rowsets.proofs.decoded_outcome.Tie as tie
 
 enum-known-answer : tie.Need-enum-known-answer
 enum-known-answer c = search needs
@@ -23,8 +23,8 @@ returns c = case paperDecoded (c .before .before .answer .given .1) (c .taken .e
 returns-2 : tie.Need-returns-2
 returns-2 c = search needs
 
-pub outcome-spec : {M : Type 1} → statement M
-outcome-spec =
+pub decoded-outcome-spec : {M : Type 1} → statement M
+decoded-outcome-spec =
     tie.close
     (tie.spec
     enum-known-answer
