@@ -5,8 +5,7 @@ use Prim.Native.Nat.{ℕ}
 use lib.ListN.{length, getD}
 use Rattle.words.specs.Answer.{Answer, accepted, more, refused}
 use Rattle.words.specs.Statement.{OneResult}
-use Rattle.words.specs.Paper.{Tells, outcome}
-use Rattle.words.proofs.Unique.{equal-to-one, means-one}
+use Rattle.words.proofs.Unique.{means-one}
 use Rattle.error_tree.specs.Reading.{reading}
 use Rattle.error_tree.proofs.Unique.{paperBack, paper-back}
 use Rattle.error_tree.specs.declared.refusal.ErrorRefusal.the-variants.{BadMessage, ErrorsTooDeep, BadTable, NoRoom}
@@ -38,6 +37,3 @@ pub decode-error-unique : (s errors attributes : List ℕ)
 decode-error-unique s errors attributes p p′ q q′ =
     let answer = means-one decodedPaper decodedBack decoded-back (reading s (length errors) (length attributes)) (p .0) (p′ .0) (q .0) (q′ .0) in
     λ i. (answer i, (q .1 ∙ sym (q′ .1)) i, (q .2 ∙ sym (q′ .2)) i)
-
-pub decoded-outcome-unique : (answer : Decoded) → OneResult (Tells (decodedPaper answer))
-decoded-outcome-unique answer = equal-to-one (outcome (decodedPaper answer))

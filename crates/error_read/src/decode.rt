@@ -1,19 +1,14 @@
 // A TError read into lent tables: four words an error (code, depth, text offset, text length), in pre-order; five an
 // attribute (error, key offset, key length, value offset, value length), in wire order.
-ghost use Rattle.words.specs.Paper.{Tells};
-ghost use Rattle.error_read.specs.Paper.{decodedPaper};
 ghost use Rattle.error_read.specs.Statement.{Decodes};
 use super::fill::fill_error;
 use error_tree::refusal::ErrorRefusal;
-use error_tree::refusal::refusal_outcome;
 use error_tree::table::ATTRIBUTE_ENTRY;
 use error_tree::table::ERROR_ENTRY;
 use error_walk::walk::Walked;
 use error_walk::walk::count_error;
 use words::outcome::NoRoom;
-use words::outcome::Outcome;
 use words::outcome::Room;
-use words::outcome::taken;
 
 pub enum Decoded {
     // How many errors and attributes.
@@ -46,15 +41,5 @@ pub fn decode_error(input: &[u8], errors: &mut [u64], attributes: &mut [u64]) ->
             fill_error(input, errors, attributes);
             Decoded::Read(count, rows)
         }
-    }
-}
-
-// What `decode_error` answered, in words.
-pub fn decoded_outcome(answer: Decoded) -> Outcome
-    ensures { λ r. ⌜ Tells (decodedPaper answer) r ⌝ }
-{
-    match answer {
-        Decoded::Read(errors, attributes) => taken(0, errors as u64, attributes as u64, 0),
-        Decoded::Refused(refusal) => refusal_outcome(refusal),
     }
 }

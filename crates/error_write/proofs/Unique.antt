@@ -7,8 +7,7 @@ use Rattle.error_write.specs.declared.write.Encoded.{Encoded}
 use Rattle.error_write.specs.declared.write.Encoded.the-variants as E
 use Rattle.words.specs.Answer.{Answer, accepted, more, refused}
 use Rattle.words.specs.Statement.{OneResult}
-use Rattle.words.specs.Paper.{Tells, outcome}
-use Rattle.words.proofs.Unique.{equal-to-one, means-one}
+use Rattle.words.proofs.Unique.{means-one}
 use Rattle.error_tree.proofs.Unique.{paperBack, paper-back}
 use Rattle.error_tree.specs.declared.refusal.ErrorRefusal.the-variants.{BadMessage, ErrorsTooDeep, BadTable, NoRoom}
 use Rattle.error_write.specs.Writing.{measuring, writing}
@@ -34,9 +33,6 @@ measured-back (Refused (NoRoom short)) = ap Refused (paper-back (NoRoom short))
 pub error-size-unique : (area errors attributes : List ℕ) → OneResult (Measures area errors attributes)
 error-size-unique area errors attributes = means-one measuredPaper measuredBack measured-back (measuring area errors attributes)
 
-pub measured-outcome-unique : (answer : Measured) → OneResult (Tells (measuredPaper answer))
-measured-outcome-unique answer = equal-to-one (outcome (measuredPaper answer))
-
 encodedBack : Answer → Encoded
 encodedBack (accepted count fields) = E.Written count
 encodedBack more = E.Written 0
@@ -54,6 +50,3 @@ pub encode-error-unique : (area errors attributes out : List ℕ) → OneResult 
 encode-error-unique area errors attributes out p p′ q q′ =
     let answer = means-one encodedPaper encodedBack encoded-back (writing area errors attributes (length out)) (p .0) (p′ .0) (q .0) (q′ .0) in
     λ i. (answer i, (q .1 ∙ sym (q′ .1)) i)
-
-pub encoded-outcome-unique : (answer : Encoded) → OneResult (Tells (encodedPaper answer))
-encoded-outcome-unique answer = equal-to-one (outcome (encodedPaper answer))

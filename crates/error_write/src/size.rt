@@ -3,13 +3,11 @@
 ghost use mathlib.Core.Path.{_≡_};
 ghost use Prim.Native.Nat.{_+_, _*_, _<_, _≤_};
 ghost use lib.ListN.{length};
-ghost use Rattle.words.specs.Paper.{Tells};
 ghost use Rattle.error_tree.specs.Reading.{errorEntry, attributeEntry};
 ghost use Rattle.error_table.specs.Table.{errorsIn};
 ghost use Rattle.error_table.specs.Statement.{Sound};
 ghost use Rattle.error_write.specs.Written.{allRows, errorBytes};
 ghost use Rattle.error_write.specs.Writing.{capped, needed};
-ghost use Rattle.error_write.specs.Paper.{measuredPaper};
 ghost use Rattle.error_write.specs.Statement.{Measures};
 ghost use Rattle.error_write.specs.Stages.{Covers, delimitedSize, attributeSize, rowSize, entriesSize, dictionarySize, ownSize, Sizes};
 use super::rows::first_row;
@@ -18,12 +16,9 @@ use super::rows::row_before;
 use error_table::table::Verdict;
 use error_table::table::check_tables;
 use error_tree::refusal::ErrorRefusal;
-use error_tree::refusal::refusal_outcome;
 use error_tree::table::ATTRIBUTE_ENTRY;
 use error_tree::table::ERROR_ENTRY;
 use varint::write::varint_size;
-use words::outcome::Outcome;
-use words::outcome::taken;
 
 // The most that a size says.
 const MOST_BYTES: u64 = 0xffff_ffff_ffff_ffff;
@@ -148,14 +143,4 @@ pub fn error_size(area: &[u8], errors: &[u64], attributes: &[u64]) -> Measured
     ensures { λ r. ⌜ Measures (now (area .entry)) (now (errors .entry)) (now (attributes .entry)) r ⌝ }
 {
     size_checked(area, errors, attributes)
-}
-
-// What `error_size` answered, in words.
-pub fn measured_outcome(answer: Measured) -> Outcome
-    ensures { λ r. ⌜ Tells (measuredPaper answer) r ⌝ }
-{
-    match answer {
-        Measured::Size(count) => taken(count, 0, 0, 0),
-        Measured::Refused(refusal) => refusal_outcome(refusal),
-    }
 }

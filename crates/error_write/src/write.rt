@@ -4,12 +4,10 @@ ghost use mathlib.Core.List.{_++_};
 ghost use Prim.Native.Nat.{_+_, _*_, _<_, _≤_};
 ghost use lib.ListN.{length};
 ghost use Rattle.words.specs.Buffer.{over, stretch};
-ghost use Rattle.words.specs.Paper.{Tells};
 ghost use Rattle.error_tree.specs.Reading.{errorEntry, attributeEntry};
 ghost use Rattle.error_table.specs.Table.{errorsIn, attributesIn};
 ghost use Rattle.error_table.specs.Statement.{Sound};
 ghost use Rattle.error_write.specs.Written.{lead, delimited, attributeBytes, allRows, entriesBytes, dictionaryBytes, ownBytes, errorBytes};
-ghost use Rattle.error_write.specs.Paper.{encodedPaper};
 ghost use Rattle.error_write.specs.Statement.{Encodes};
 ghost use Rattle.error_write.specs.Stages.{Puts, Covers, rowBytes};
 use super::rows::first_row;
@@ -24,15 +22,12 @@ use super::size::entries_size;
 use super::size::own_size;
 use super::size::size_checked;
 use error_tree::refusal::ErrorRefusal;
-use error_tree::refusal::refusal_outcome;
 use error_tree::table::ATTRIBUTE_ENTRY;
 use error_tree::table::ERROR_ENTRY;
 use varint::write::varint_size;
 use varint::write::write_varint;
 use words::outcome::NoRoom;
-use words::outcome::Outcome;
 use words::outcome::Room;
-use words::outcome::taken;
 use words::write::write_bytes;
 
 pub enum Encoded {
@@ -297,15 +292,5 @@ pub fn encode_error(area: &[u8], errors: &[u64], attributes: &[u64], out: &mut [
             write_errors(out, area, errors, attributes, count as usize);
             Encoded::Written(count as usize)
         }
-    }
-}
-
-// What `encode_error` answered, in words.
-pub fn encoded_outcome(answer: Encoded) -> Outcome
-    ensures { λ r. ⌜ Tells (encodedPaper answer) r ⌝ }
-{
-    match answer {
-        Encoded::Written(count) => taken(count as u64, 0, 0, 0),
-        Encoded::Refused(refusal) => refusal_outcome(refusal),
     }
 }

@@ -1,12 +1,77 @@
 // GUIDs: an id is lent as its sixteen wire bytes, of which a missing one counts as 0.
-ghost use Rattle.guid.specs.Guid.{guidOf, guidOfHalves};
+ghost use mathlib.Core.Path.{_≡_};
+ghost use Rattle.words.specs.Answer.{accepted};
+ghost use Rattle.words.specs.Paper.{Tells};
+ghost use Rattle.guid.specs.Guid.{guidOf, guidOfHalves, wordsOf};
+ghost use Rattle.guid_text.specs.Paper.{printedPaper, parsedPaper, reasonNumber};
 ghost use Rattle.face_ids.specs.Statement.{WritesId, Prints, Parses, GivesParts, GivesHalves, TellsNull};
 use guid::Guid;
+use guid_text::Parsed;
+use guid_text::Printed;
+use guid_text::Reason;
+use words::outcome::ACCEPTED;
 use words::outcome::NoRoom;
 use words::outcome::Outcome;
 use words::outcome::Room;
 use words::outcome::no_room;
+use words::outcome::refusal;
 use words::outcome::taken;
+
+// A GUID in words: its four words in wire order.
+fn words_outcome(id: Guid) -> Outcome
+    ensures { λ r. ⌜ Tells (accepted 0 (wordsOf id)) r ⌝ }
+{
+    Outcome {
+        kind: ACCEPTED,
+        number: 0,
+        count: 0,
+        v0: id.w0 as u64,
+        v1: id.w1 as u64,
+        v2: id.w2 as u64,
+        v3: id.w3 as u64,
+        v4: 0,
+        v5: 0,
+        v6: 0,
+    }
+}
+
+// The number of a reason, in the order of document 02's sentence.
+fn reason_number(reason: Reason) -> u64
+    ensures { λ r. ⌜ r ≡ reasonNumber reason ⌝ }
+{
+    match reason {
+        Reason::Empty => 1,
+        Reason::TooLong => 2,
+        Reason::NotHex => 3,
+        Reason::FieldCount => 4,
+    }
+}
+
+// What `print` answered, in words.
+fn printed_outcome(answer: Printed) -> Outcome
+    ensures { λ r. ⌜ Tells (printedPaper answer) r ⌝ }
+{
+    match answer {
+        Printed::Written(count) => taken(count as u64, 0, 0, 0),
+        Printed::Refused(short) => no_room(short),
+    }
+}
+
+// What `parse` answered, in words.
+fn parsed_outcome(answer: Parsed) -> Outcome
+    ensures { λ r. ⌜ Tells (parsedPaper answer) r ⌝ }
+{
+    match answer {
+        Parsed::Bad { position, reason } => refusal(
+            16,
+            0,
+            position as u64,
+            reason_number(reason),
+            0,
+        ),
+        Parsed::Read(id) => words_outcome(id),
+    }
+}
 
 // The sixteen bytes over the front of `out`, or 17.
 fn write_id(id: Guid, out: &mut [u8]) -> Outcome
@@ -48,21 +113,21 @@ pub extern "C" fn cablefinch_guid_print(id: &[u8], out: &mut [u8]) -> Outcome
     ensures { λ r. ⌜ Prints (now (id .entry)) (now (out .entry)) r (now (out .exit)) ⌝ }
 {
     let guid = Guid::from_bytes(id, 0);
-    guid_text::printed_outcome(guid_text::print(guid, out))
+    printed_outcome(guid_text::print(guid, out))
 }
 
 #[no_mangle]
 pub extern "C" fn cablefinch_guid_parse(text: &[u8]) -> Outcome
     ensures { λ r. ⌜ Parses (now (text .entry)) r ⌝ }
 {
-    guid_text::parsed_outcome(guid_text::parse(text))
+    parsed_outcome(guid_text::parse(text))
 }
 
 #[no_mangle]
 pub extern "C" fn cablefinch_guid_parts(id: &[u8]) -> Outcome
     ensures { λ r. ⌜ GivesParts (now (id .entry)) r ⌝ }
 {
-    guid::words_outcome(Guid::from_bytes(id, 0))
+    words_outcome(Guid::from_bytes(id, 0))
 }
 
 #[no_mangle]

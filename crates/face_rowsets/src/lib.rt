@@ -1,8 +1,22 @@
 // Rowsets: read into lent row and value tables, written from them; one value by itself; the plain form; the bytes
 // behind a value table packed.
+ghost use Rattle.words.specs.Paper.{Tells};
+ghost use Rattle.wire_read.specs.Paper.{paperDecoded};
 ghost use Rattle.wire_read.specs.Statement.{TellsPlain};
 ghost use Rattle.face_rowsets.specs.Statement.{DecodesRowset, EncodesRowset, MeasuresRowset, ReadsValue, PacksArea};
+use wire_read::rowset::Decoded;
 use words::outcome::Outcome;
+use words::outcome::taken;
+
+// How many rows and values were read, or the refusal, as document 01's number and values.
+fn decoded_outcome(answer: Decoded) -> Outcome
+    ensures { λ r. ⌜ Tells (paperDecoded answer) r ⌝ }
+{
+    match answer {
+        Decoded::Read { rows, values } => taken(0, rows as u64, values as u64, 0),
+        Decoded::Refused(error) => wire::error::outcome(error),
+    }
+}
 
 #[no_mangle]
 pub extern "C" fn cablefinch_decode_rowset(
@@ -13,7 +27,7 @@ pub extern "C" fn cablefinch_decode_rowset(
     ensures { λ r. ⌜ DecodesRowset (now (input .entry)) (now (rows .entry)) (now (values .entry)) r (now (rows .exit))
         (now (values .exit)) ⌝ }
 {
-    wire_read::rowset::outcome(wire_read::rowset::decode_rowset(input, rows, values))
+    decoded_outcome(wire_read::rowset::decode_rowset(input, rows, values))
 }
 
 #[no_mangle]

@@ -3,9 +3,7 @@
 use mathlib.Core.List.{List}
 use Prim.Native.Nat.{ℕ}
 use Rattle.words.specs.Buffer.{fitted}
-use Rattle.words.specs.Answer.{accepted}
 use Rattle.words.specs.Statement.{Leaves, OneResult}
-use Rattle.words.specs.Paper.{Tells, outcome}
 use Rattle.words.proofs.Unique.{equal-to-one}
 use Rattle.guid.specs.declared.Guid.{Guid}
 use Rattle.guid.specs.Guid.{guidOf, wordsOf, wireBytes, guidAt, halvesOf, guidOfHalves, isNull}
@@ -31,6 +29,3 @@ Guid-from-bytes-unique s at = equal-to-one (guidAt s at)
 
 pub Guid-write-unique : (g : Guid) (before : List ℕ) → OneResult (Leaves (wireBytes g) before)
 Guid-write-unique g before = equal-to-one (fitted (wireBytes g) before)
-
-pub words-outcome-unique : (g : Guid) → OneResult (Tells (accepted 0 (wordsOf g)))
-words-outcome-unique g = equal-to-one (outcome (accepted 0 (wordsOf g)))

@@ -3,12 +3,8 @@
 // `guid_text`.
 ghost use mathlib.Core.Path.{_≡_};
 ghost use Rattle.words.specs.Statement.{Leaves};
-ghost use Rattle.words.specs.Answer.{accepted};
-ghost use Rattle.words.specs.Paper.{Tells};
-ghost use Rattle.guid.specs.Guid.{wireBytes, wordsOf};
+ghost use Rattle.guid.specs.Guid.{wireBytes};
 ghost use Rattle.guid.specs.Statement.{MadeOfParts, GivesParts, MadeOfHalves, GivesHalves, TellsNull, ReadsBytes};
-use words::outcome::ACCEPTED;
-use words::outcome::Outcome;
 use words::read::read_u32;
 use words::write::write_u32;
 
@@ -110,23 +106,5 @@ impl Guid {
         write_u32(&mut out[4..], self.w1);
         write_u32(&mut out[8..], self.w2);
         write_u32(&mut out[12..], self.w3);
-    }
-}
-
-// A GUID in words: its four words in wire order.
-pub fn words_outcome(id: Guid) -> Outcome
-    ensures { λ r. ⌜ Tells (accepted 0 (wordsOf id)) r ⌝ }
-{
-    Outcome {
-        kind: ACCEPTED,
-        number: 0,
-        count: 0,
-        v0: id.w0 as u64,
-        v1: id.w1 as u64,
-        v2: id.w2 as u64,
-        v3: id.w3 as u64,
-        v4: 0,
-        v5: 0,
-        v6: 0,
     }
 }

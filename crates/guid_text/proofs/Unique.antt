@@ -7,7 +7,6 @@ use lib.ListN.{length, getD}
 use Rattle.words.specs.Decide.{decide, _⇒_, _=?_}
 use Rattle.words.specs.Answer.{Answer, accepted, more, refused}
 use Rattle.words.specs.Statement.{OneResult}
-use Rattle.words.specs.Paper.{Tells, outcome}
 use Rattle.words.proofs.Unique.{equal-to-one, means-one}
 use Rattle.words.proofs.PaperLaws.{noRoomOf, no-room-back}
 use Rattle.guid.specs.declared.Guid.{Guid}
@@ -67,9 +66,3 @@ print-unique g before p p′ q q′ =
 
 pub parse-unique : (s : List ℕ) → OneResult (Parses s)
 parse-unique s = same-parsed s
-
-pub printed-outcome-unique : (answer : Printed) → OneResult (Tells (printedPaper answer))
-printed-outcome-unique answer = equal-to-one (outcome (printedPaper answer))
-
-pub parsed-outcome-unique : (answer : Parsed) → OneResult (Tells (parsedPaper answer))
-parsed-outcome-unique answer = equal-to-one (outcome (parsedPaper answer))

@@ -1,19 +1,12 @@
 // A GUID's text after guid.rs: four fields of hex digits between dashes, the last word first; how long it is, written,
 // and read. A text that is refused says where it goes wrong and why.
 ghost use mathlib.Core.Path.{_≡_};
-ghost use Rattle.words.specs.Paper.{Tells};
-ghost use Rattle.guid_text.specs.Paper.{printedPaper, parsedPaper, reasonNumber};
 ghost use Rattle.guid_text.specs.Statement.{SizesText, Prints, Parses};
 use guid::Guid;
-use guid::words_outcome;
 use numerals::digit_value;
 use numerals::hex_size;
 use words::outcome::NoRoom;
-use words::outcome::Outcome;
 use words::outcome::Room;
-use words::outcome::no_room;
-use words::outcome::refusal;
-use words::outcome::taken;
 
 mod hex;
 
@@ -129,42 +122,4 @@ fn bad(position: usize, reason: Reason) -> Parsed
     ensures { λ r. ⌜ r ≡ Parsed.Bad position reason ⌝ }
 {
     Parsed::Bad { position, reason }
-}
-
-// The number of a reason, in the order of document 02's sentence.
-fn reason_number(reason: Reason) -> u64
-    ensures { λ r. ⌜ r ≡ reasonNumber reason ⌝ }
-{
-    match reason {
-        Reason::Empty => 1,
-        Reason::TooLong => 2,
-        Reason::NotHex => 3,
-        Reason::FieldCount => 4,
-    }
-}
-
-// What `print` answered, in words.
-pub fn printed_outcome(answer: Printed) -> Outcome
-    ensures { λ r. ⌜ Tells (printedPaper answer) r ⌝ }
-{
-    match answer {
-        Printed::Written(count) => taken(count as u64, 0, 0, 0),
-        Printed::Refused(short) => no_room(short),
-    }
-}
-
-// What `parse` answered, in words.
-pub fn parsed_outcome(answer: Parsed) -> Outcome
-    ensures { λ r. ⌜ Tells (parsedPaper answer) r ⌝ }
-{
-    match answer {
-        Parsed::Bad { position, reason } => refusal(
-            16,
-            0,
-            position as u64,
-            reason_number(reason),
-            0,
-        ),
-        Parsed::Read(id) => words_outcome(id),
-    }
 }

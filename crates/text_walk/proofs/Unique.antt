@@ -5,9 +5,8 @@ use Prim.Native.Nat.{ℕ}
 use lib.ListN.{getD}
 use Rattle.words.specs.Answer.{Answer, accepted, more, refused}
 use Rattle.words.specs.Decide.{pick, _=?_}
-use Rattle.words.specs.Paper.{Tells, outcome}
 use Rattle.words.specs.Statement.{OneResult}
-use Rattle.words.proofs.Unique.{equal-to-one, means-one}
+use Rattle.words.proofs.Unique.{means-one}
 use Rattle.wire.specs.Paper.{paper}
 use Rattle.wire.specs.declared.error.WireError.{WireError}
 use Rattle.wire.specs.declared.error.WireError.the-variants.{Truncated, TooManyRows, TooManyValues, ValueTooLong, RowsetTooLarge, UnknownValueType, TrailingBytes, NoRoom, BadTable}
@@ -63,9 +62,3 @@ walked-back (Stopped e) = stopped-back e ∙ ap Stopped (text-back e)
 
 pub count-text-unique : (s : List ℕ) → OneResult (Counts s)
 count-text-unique s = means-one walkedPaper walkedOf walked-back (counting s)
-
-pub outcome-unique : (error : TextError) → OneResult (Tells (textPaper error))
-outcome-unique error = equal-to-one (outcome (textPaper error))
-
-pub walked-outcome-unique : (answer : Walked) → OneResult (Tells (walkedPaper answer))
-walked-outcome-unique answer = equal-to-one (outcome (walkedPaper answer))

@@ -1,12 +1,8 @@
 // A text walked whole: how many rows, values and blob bytes it has, or what is met first.
-ghost use Rattle.words.specs.Paper.{Tells};
-ghost use Rattle.text_walk.specs.Paper.{walkedPaper};
 ghost use Rattle.text_walk.specs.Statement.{Counts};
 use super::check::Line;
 use super::check::check_line;
 use super::error::TextError;
-use words::outcome::Outcome;
-use words::outcome::taken;
 
 pub enum Walked {
     Counted {
@@ -49,19 +45,5 @@ pub fn count_text(text: &[u8]) -> Walked
         rows,
         values,
         bytes,
-    }
-}
-
-// What `count_text` answered, in words.
-pub fn walked_outcome(answer: Walked) -> Outcome
-    ensures { λ r. ⌜ Tells (walkedPaper answer) r ⌝ }
-{
-    match answer {
-        Walked::Counted {
-            rows,
-            values,
-            bytes,
-        } => { taken(bytes as u64, rows as u64, values as u64, 0) }
-        Walked::Stopped(refusal) => super::error::outcome(refusal),
     }
 }

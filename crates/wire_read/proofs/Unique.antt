@@ -4,7 +4,6 @@ use mathlib.Core.List.{List}
 use Prim.Native.Nat.{ℕ}
 use lib.ListN.{length, getD}
 use Rattle.words.specs.Answer.{Answer}
-use Rattle.words.specs.Paper.{Tells, outcome}
 use Rattle.words.specs.Statement.{OneResult}
 use Rattle.words.proofs.Unique.{equal-to-one, means-one, holds-one}
 use Rattle.wire.specs.Layout.{countAt, rowWords, valueWords}
@@ -38,6 +37,3 @@ decode-rowset-unique s rows values r r′ a a′ b b′ p q =
 
 pub is-plain-unique : (s : List ℕ) → OneResult (TellsPlain s)
 is-plain-unique s = equal-to-one (plain s)
-
-pub outcome-unique : (answer : Decoded) → OneResult (Tells (paperDecoded answer))
-outcome-unique answer = equal-to-one (outcome (paperDecoded answer))

@@ -1,7 +1,5 @@
 // A rowset read into lent tables, after the Rust's `decode_rowset`. A row is one word, its count or the null mark; a
 // value is five: id, type, aggregate, scalar bits or blob offset, blob length.
-ghost use Rattle.words.specs.Paper.{Tells};
-ghost use Rattle.wire_read.specs.Paper.{paperDecoded};
 ghost use Rattle.wire_read.specs.Statement.{Decodes};
 use super::fill::fill_rows;
 use super::walk::Walked;
@@ -9,9 +7,7 @@ use super::walk::walk_rowset;
 use wire::error::WireError;
 use wire::layout::ENTRY_WORDS;
 use words::outcome::NoRoom;
-use words::outcome::Outcome;
 use words::outcome::Room;
-use words::outcome::taken;
 use words::read::read_u64;
 
 pub enum Decoded {
@@ -49,15 +45,5 @@ pub fn decode_rowset(input: &[u8], rows: &mut [u64], values: &mut [u64]) -> Deco
                 values: entries,
             }
         }
-    }
-}
-
-// How many rows and values were read, or the refusal, as document 01's number and values.
-pub fn outcome(answer: Decoded) -> Outcome
-    ensures { λ r. ⌜ Tells (paperDecoded answer) r ⌝ }
-{
-    match answer {
-        Decoded::Read { rows, values } => taken(0, rows as u64, values as u64, 0),
-        Decoded::Refused(error) => wire::error::outcome(error),
     }
 }

@@ -7,9 +7,9 @@ use lib.ListN.{length, getD}
 use Rattle.words.specs.Answer.{Answer, accepted, more, refused, afterwards}
 use Rattle.words.specs.Decide.{_=?_, _⇒_, decide}
 use Rattle.words.specs.Statement.{OneResult}
-use Rattle.words.specs.Paper.{Tells, outcome, roomLine}
+use Rattle.words.specs.Paper.{roomLine}
 use Rattle.words.specs.declared.outcome.Room.the-variants.{Items as ItemRoom}
-use Rattle.words.proofs.Unique.{equal-to-one, means-one}
+use Rattle.words.proofs.Unique.{means-one}
 use Rattle.words.proofs.PaperLaws.{noRoomOf, no-room-back}
 use Rattle.yson_grammar.specs.Items.{outer}
 use Rattle.yson_grammar.proofs.Place.{one-place, not-both}
@@ -78,6 +78,3 @@ module _ (s : List ℕ) where
       ∙ ap (λ (ws : List ℕ). afterwards (listing (q′ .0) room) ws before) (same .words)
       ∙ sym (q′ .2) in
       λ i. (answer i, exits i)
-
-pub listed-outcome-unique : (answer : Listed) → OneResult (Tells (paper answer))
-listed-outcome-unique answer = equal-to-one (outcome (paper answer))

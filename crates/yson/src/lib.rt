@@ -4,18 +4,12 @@
 ghost use mathlib.Core.Path.{_≡_};
 ghost use Prim.Native.Nat.{_+_, _<_, _≤_};
 ghost use lib.ListN.{length};
-ghost use Rattle.words.specs.Paper.{Tells};
 ghost use Rattle.yson_token.specs.Token.{square, closing};
 ghost use Rattle.yson_grammar.specs.Stages as Machine;
-ghost use Rattle.yson.specs.Paper.{paper};
 ghost use Rattle.yson.specs.Statement.{Checks, Lists};
 ghost use Rattle.yson.specs.Stages.{keyed, Reads, ReadsItems, ReadsPair, ReadsWhole, Stores, Ready, Fills};
 use words::outcome::NoRoom;
-use words::outcome::Outcome;
 use words::outcome::Room;
-use words::outcome::no_room;
-use words::outcome::refusal;
-use words::outcome::taken;
 use yson_token::Found;
 use yson_token::byte_at;
 use yson_token::key;
@@ -237,19 +231,5 @@ pub fn items(s: &[u8], table: &mut [u64]) -> Listed
             fill(s, start, items, table);
             Listed::Items(items)
         }
-    }
-}
-
-// The answer in words.
-pub fn listed_outcome(answer: Listed) -> Outcome
-    ensures { λ r. ⌜ Tells (paper answer) r ⌝ }
-{
-    match answer {
-        Listed::Items(items) => taken(0, items as u64, 0, 0),
-        Listed::Broken(fault) => match fault {
-            Fault::BadYson(place) => refusal(20, 0, place as u64, 0, 0),
-            Fault::TooDeep(place) => refusal(21, 0, place as u64, 0, 0),
-        },
-        Listed::Short(short) => no_room(short),
     }
 }

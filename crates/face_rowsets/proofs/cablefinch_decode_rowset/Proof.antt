@@ -7,8 +7,8 @@ use Rattle.face_rowsets.proofs.cablefinch_decode_rowset.Tie as tie
 decode-rowset-requires : tie.Need-decode-rowset-requires
 decode-rowset-requires c κs = search needs
 
-outcome-requires : tie.Need-outcome-requires
-outcome-requires c κs = search needs
+decoded-outcome-requires : tie.Need-decoded-outcome-requires
+decoded-outcome-requires c κs = search needs
 
 same-length : tie.Need-same-length
 same-length c = search needs
@@ -17,8 +17,8 @@ same-length-2 : tie.Need-same-length-2
 same-length-2 c = search needs
 
 returns : tie.Need-returns
-returns c = let e = c .before .before .before .before .before .decode-rowset .ensures in (told (e .0) (c .outcome .ensures), e .1, e .2)
+returns c = let e = c .before .before .before .before .before .decode-rowset .ensures in (told (e .0) (c .decoded-outcome .ensures), e .1, e .2)
 
 pub cablefinch-decode-rowset-spec : {M : Type 1} → statement M
 cablefinch-decode-rowset-spec =
-    tie.close (tie.spec decode-rowset-requires outcome-requires same-length same-length-2 returns)
+    tie.close (tie.spec decode-rowset-requires decoded-outcome-requires same-length same-length-2 returns)
