@@ -4,7 +4,7 @@ use Prim.Native.Nat.{ℕ}
 use mathlib.Core.List.{List}
 use Rattle.words.specs.Statement.{OneResult}
 use Rattle.words.proofs.Unique.{equal-to-one}
-use Rattle.packet.specs.Statement.{PartChecksumIs}
+use Rattle.packet_sum.specs.Statement.{PartChecksumIs}
 use Rattle.packet_read.specs.Statement.{defaultCeiling}
 use Rattle.words.specs.declared.outcome.Outcome.{Outcome}
 use Rattle.face.proofs.Unique.{equal-to-two}

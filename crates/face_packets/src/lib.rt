@@ -1,13 +1,18 @@
 // Packets: read into a lent part table, written from one. A type is its number; an unknown one is refused by 2, before
 // all else. A mode is a number too: 0 is archive, any other is live.
-ghost use Rattle.packet.specs.Statement.{PartChecksumIs};
+ghost use Rattle.packet_sum.specs.Statement.{PartChecksumIs};
 ghost use Rattle.packet_read.specs.Statement.{defaultCeiling};
+ghost use Rattle.packet_check.specs.Paper.{paperValidated, paperMeasured};
+ghost use Rattle.packet_write.specs.Paper.{paper};
 ghost use Rattle.face_packets.specs.Statement.{Decodes, unknownType, Encodes, Measures, Validates, LendsPart, Contains};
 ghost use Rattle.words.specs.Paper.{Tells};
 use guid::Guid;
 use packet::PacketFlags;
 use packet::TypeFound;
+use packet_check::Measured;
+use packet_check::Validated;
 use packet_mode::mode_of;
+use packet_write::Encoded;
 use words::outcome::Outcome;
 use words::outcome::refusal;
 use words::outcome::taken;
@@ -24,7 +29,7 @@ pub extern "C" fn cablefinch_decode_with(
         (now (parts .exit)) ⌝ }
 {
     let mode = mode_of(mode);
-    packet_read::outcome(packet_read::decode_with(
+    packet_answer::outcome(packet_read::decode_with(
         mode,
         input,
         max_message_size,
@@ -44,13 +49,43 @@ pub extern "C" fn cablefinch_decode(
         (now (parts .exit)) ⌝ }
 {
     let mode = mode_of(mode);
-    packet_read::outcome(packet_read::decode(mode, input, max_message_size, parts))
+    packet_answer::outcome(packet_read::decode(mode, input, max_message_size, parts))
 }
 
 fn unknown_type(kind: u64) -> Outcome
     ensures { λ r. ⌜ Tells (unknownType kind) r ⌝ }
 {
     refusal(2, 0, kind, 0, 0)
+}
+
+// The answer of `encode` in document 01's number and values.
+fn encoded_outcome(answer: Encoded) -> Outcome
+    ensures { λ r. ⌜ Tells (paper answer) r ⌝ }
+{
+    match answer {
+        Encoded::Written(size) => taken(size as u64, 0, 0, 0),
+        Encoded::Refused(error) => packet::refused(error, 0),
+    }
+}
+
+// The answer of `validate` in document 01's number and values.
+fn validated_outcome(answer: Validated) -> Outcome
+    ensures { λ r. ⌜ Tells (paperValidated answer) r ⌝ }
+{
+    match answer {
+        Validated::Valid => taken(0, 0, 0, 0),
+        Validated::Refused(error) => packet::refused(error, 0),
+    }
+}
+
+// The answer of `encoded_size` in document 01's number and values.
+fn measured_outcome(answer: Measured) -> Outcome
+    ensures { λ r. ⌜ Tells (paperMeasured answer) r ⌝ }
+{
+    match answer {
+        Measured::Size(size) => taken(size as u64, 0, 0, 0),
+        Measured::Refused(error) => packet::refused(error, 0),
+    }
 }
 
 #[no_mangle]
@@ -73,15 +108,7 @@ pub extern "C" fn cablefinch_encode(
             let guid = Guid::from_bytes(id, 0);
             let flags = PacketFlags(flags);
             let mode = mode_of(mode);
-            packet_write::outcome(packet_write::encode(
-                mode,
-                packet_type,
-                flags,
-                guid,
-                area,
-                parts,
-                out,
-            ))
+            encoded_outcome(packet_write::encode(mode, packet_type, flags, guid, area, parts, out))
         }
     }
 }
@@ -99,12 +126,7 @@ pub extern "C" fn cablefinch_encoded_size(
         TypeFound::Unknown => unknown_type(kind),
         TypeFound::Known(packet_type) => {
             let mode = mode_of(mode);
-            packet_check::measured_outcome(packet_check::encoded_size(
-                mode,
-                packet_type,
-                area,
-                parts,
-            ))
+            measured_outcome(packet_check::encoded_size(mode, packet_type, area, parts))
         }
     }
 }
@@ -117,7 +139,7 @@ pub extern "C" fn cablefinch_validate(mode: u64, kind: u64, area: &[u8], parts: 
         TypeFound::Unknown => unknown_type(kind),
         TypeFound::Known(packet_type) => {
             let mode = mode_of(mode);
-            packet_check::validated_outcome(packet_check::validate(mode, packet_type, area, parts))
+            validated_outcome(packet_check::validate(mode, packet_type, area, parts))
         }
     }
 }
@@ -141,7 +163,7 @@ pub extern "C" fn cablefinch_part(input: &[u8], parts: &[u64], index: usize) -> 
 pub extern "C" fn cablefinch_part_checksum(input: &[u8], parts: &[u64], index: usize) -> u64
     ensures { λ r. ⌜ PartChecksumIs (now (input .entry)) (now (parts .entry)) index r ⌝ }
 {
-    packet::part_checksum(input, parts, index)
+    packet_sum::part_checksum(input, parts, index)
 }
 
 #[no_mangle]

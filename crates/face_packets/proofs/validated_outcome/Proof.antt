@@ -1,9 +1,9 @@
 -- `validated_outcome` meets its contract, case by case. Assumes nothing.
 use Rattle.packet.proofs.Back.{case}
 use Rattle.packet_check.specs.Paper.{paperValidated}
 use borrow.Author.Needs.{needs}
-use Rattle.packet_check.proofs.validated_outcome.Statement.{statement}
-use Rattle.packet_check.proofs.validated_outcome.Tie as tie
+use Rattle.face_packets.proofs.validated_outcome.Statement.{statement}
+use Rattle.face_packets.proofs.validated_outcome.Tie as tie
 
 enum-told : tie.Need-enum-told
 enum-told c = search needs

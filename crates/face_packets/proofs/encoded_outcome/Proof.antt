@@ -1,9 +1,9 @@
--- `measured_outcome` meets its contract, case by case. Assumes nothing.
+-- `encoded_outcome` meets its contract, case by case. Assumes nothing.
 use Rattle.packet.proofs.Back.{case}
-use Rattle.packet_check.specs.Paper.{paperMeasured}
+use Rattle.packet_write.specs.Paper.{paper}
 use borrow.Author.Needs.{needs}
-use Rattle.packet_check.proofs.measured_outcome.Statement.{statement}
-use Rattle.packet_check.proofs.measured_outcome.Tie as tie
+use Rattle.face_packets.proofs.encoded_outcome.Statement.{statement}
+use Rattle.face_packets.proofs.encoded_outcome.Tie as tie
 
 enum-known-answer : tie.Need-enum-known-answer
 enum-known-answer c = search needs
@@ -18,13 +18,13 @@ refused-requires : tie.Need-refused-requires
 refused-requires c κs = search needs
 
 returns : tie.Need-returns
-returns c = case paperMeasured (c .before .before .answer .given .1) (c .taken .ensures)
+returns c = case paper (c .before .before .answer .given .1) (c .taken .ensures)
 
 returns-2 : tie.Need-returns-2
-returns-2 c = case paperMeasured (c .before .before .answer2 .given .1) (c .refused .ensures)
+returns-2 c = case paper (c .before .before .answer2 .given .1) (c .refused .ensures)
 
-pub measured-outcome-spec : {M : Type 1} → statement M
-measured-outcome-spec =
+pub encoded-outcome-spec : {M : Type 1} → statement M
+encoded-outcome-spec =
     tie.close
     (tie.spec
     enum-known-answer

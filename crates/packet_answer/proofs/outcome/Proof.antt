@@ -5,10 +5,10 @@ use Prim.Native.Nat.{ℕ}
 use Rattle.words.specs.Paper.{outcomeOf}
 use Rattle.packet.specs.declared.Packet.{Packet}
 use Rattle.packet.proofs.Back.{case}
-use Rattle.packet_read.specs.Paper.{paper}
+use Rattle.packet_answer.specs.Paper.{paper}
 use borrow.Author.Needs.{needs}
-use Rattle.packet_read.proofs.outcome.Statement.{statement}
-use Rattle.packet_read.proofs.outcome.Tie as tie
+use Rattle.packet_answer.proofs.outcome.Statement.{statement}
+use Rattle.packet_answer.proofs.outcome.Tie as tie
 
 enum-told : tie.Need-enum-told
 enum-told c = search needs

@@ -1,9 +1,9 @@
--- `outcome` meets its contract, case by case. Assumes nothing.
+-- `measured_outcome` meets its contract, case by case. Assumes nothing.
 use Rattle.packet.proofs.Back.{case}
-use Rattle.packet_write.specs.Paper.{paper}
+use Rattle.packet_check.specs.Paper.{paperMeasured}
 use borrow.Author.Needs.{needs}
-use Rattle.packet_write.proofs.outcome.Statement.{statement}
-use Rattle.packet_write.proofs.outcome.Tie as tie
+use Rattle.face_packets.proofs.measured_outcome.Statement.{statement}
+use Rattle.face_packets.proofs.measured_outcome.Tie as tie
 
 enum-known-answer : tie.Need-enum-known-answer
 enum-known-answer c = search needs
@@ -18,13 +18,13 @@ refused-requires : tie.Need-refused-requires
 refused-requires c κs = search needs
 
 returns : tie.Need-returns
-returns c = case paper (c .before .before .answer .given .1) (c .taken .ensures)
+returns c = case paperMeasured (c .before .before .answer .given .1) (c .taken .ensures)
 
 returns-2 : tie.Need-returns-2
-returns-2 c = case paper (c .before .before .answer2 .given .1) (c .refused .ensures)
+returns-2 c = case paperMeasured (c .before .before .answer2 .given .1) (c .refused .ensures)
 
-pub outcome-spec : {M : Type 1} → statement M
-outcome-spec =
+pub measured-outcome-spec : {M : Type 1} → statement M
+measured-outcome-spec =
     tie.close
     (tie.spec
     enum-known-answer

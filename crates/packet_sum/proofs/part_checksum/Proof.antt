@@ -2,8 +2,8 @@
 use mathlib.Core.Path.{ap, _∙_}
 use Rattle.crc64.specs.Polynomial.{checksum}
 use borrow.Author.Needs.{needs}
-use Rattle.packet.proofs.part_checksum.Statement.{statement}
-use Rattle.packet.proofs.part_checksum.Tie as tie
+use Rattle.packet_sum.proofs.part_checksum.Statement.{statement}
+use Rattle.packet_sum.proofs.part_checksum.Tie as tie
 
 part-requires : tie.Need-part-requires
 part-requires c κs = search needs
