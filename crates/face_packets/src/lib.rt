@@ -2,15 +2,13 @@
 // all else. A mode is a number too: 0 is archive, any other is live.
 ghost use Rattle.packet_sum.specs.Statement.{PartChecksumIs};
 ghost use Rattle.packet_read.specs.Statement.{defaultCeiling};
-ghost use Rattle.packet_check.specs.Paper.{paperValidated, paperMeasured};
 ghost use Rattle.packet_write.specs.Paper.{paper};
-ghost use Rattle.face_packets.specs.Statement.{Decodes, unknownType, Encodes, Measures, Validates, LendsPart, Contains};
+ghost use Rattle.face_parts.specs.Statement.{unknownType};
+ghost use Rattle.face_packets.specs.Statement.{Decodes, Encodes};
 ghost use Rattle.words.specs.Paper.{Tells};
 use guid::Guid;
 use packet::PacketFlags;
 use packet::TypeFound;
-use packet_check::Measured;
-use packet_check::Validated;
 use packet_mode::mode_of;
 use packet_write::Encoded;
 use words::outcome::Outcome;
@@ -68,26 +66,6 @@ fn encoded_outcome(answer: Encoded) -> Outcome
     }
 }
 
-// The answer of `validate` in document 01's number and values.
-fn validated_outcome(answer: Validated) -> Outcome
-    ensures { λ r. ⌜ Tells (paperValidated answer) r ⌝ }
-{
-    match answer {
-        Validated::Valid => taken(0, 0, 0, 0),
-        Validated::Refused(error) => packet::refused(error, 0),
-    }
-}
-
-// The answer of `encoded_size` in document 01's number and values.
-fn measured_outcome(answer: Measured) -> Outcome
-    ensures { λ r. ⌜ Tells (paperMeasured answer) r ⌝ }
-{
-    match answer {
-        Measured::Size(size) => taken(size as u64, 0, 0, 0),
-        Measured::Refused(error) => packet::refused(error, 0),
-    }
-}
-
 #[no_mangle]
 pub extern "C" fn cablefinch_encode(
     mode: u64,
@@ -114,61 +92,8 @@ pub extern "C" fn cablefinch_encode(
 }
 
 #[no_mangle]
-pub extern "C" fn cablefinch_encoded_size(
-    mode: u64,
-    kind: u64,
-    area: &[u8],
-    parts: &[u64],
-) -> Outcome
-    ensures { λ r. ⌜ Measures mode kind (now (area .entry)) (now (parts .entry)) r ⌝ }
-{
-    match packet::type_of(kind) {
-        TypeFound::Unknown => unknown_type(kind),
-        TypeFound::Known(packet_type) => {
-            let mode = mode_of(mode);
-            measured_outcome(packet_check::encoded_size(mode, packet_type, area, parts))
-        }
-    }
-}
-
-#[no_mangle]
-pub extern "C" fn cablefinch_validate(mode: u64, kind: u64, area: &[u8], parts: &[u64]) -> Outcome
-    ensures { λ r. ⌜ Validates mode kind (now (area .entry)) (now (parts .entry)) r ⌝ }
-{
-    match packet::type_of(kind) {
-        TypeFound::Unknown => unknown_type(kind),
-        TypeFound::Known(packet_type) => {
-            let mode = mode_of(mode);
-            validated_outcome(packet_check::validate(mode, packet_type, area, parts))
-        }
-    }
-}
-
-// Where part `index` lies in the input and how long it is; an empty part lies at 0.
-#[no_mangle]
-pub extern "C" fn cablefinch_part(input: &[u8], parts: &[u64], index: usize) -> Outcome
-    ensures { λ r. ⌜ LendsPart (now (input .entry)) (now (parts .entry)) index r ⌝ }
-{
-    let length = packet::part(input, parts, index).len();
-    if length == 0 {
-        return taken(0, 0, 0, 0);
-    }
-    if parts.len() / packet::ENTRY_WORDS <= index {
-        return taken(0, 0, 0, 0);
-    }
-    taken(0, parts[packet::ENTRY_WORDS * index], length as u64, 0)
-}
-
-#[no_mangle]
 pub extern "C" fn cablefinch_part_checksum(input: &[u8], parts: &[u64], index: usize) -> u64
     ensures { λ r. ⌜ PartChecksumIs (now (input .entry)) (now (parts .entry)) index r ⌝ }
 {
     packet_sum::part_checksum(input, parts, index)
-}
-
-#[no_mangle]
-pub extern "C" fn cablefinch_contains(flags: u16, other: u16) -> bool
-    ensures { λ r. ⌜ Contains flags other r ⌝ }
-{
-    packet::contains(PacketFlags(flags), PacketFlags(other))
 }

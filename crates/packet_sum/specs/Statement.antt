@@ -1,4 +1,5 @@
--- What the public function promises, by name. The lent input and table are read, and left as they were. Assumes nothing.
+-- What the public function promises, by name. The lent input and table are read, and left as they were. Assumes
+-- nothing.
 use Prim.Native.Nat.{ℕ}
 use mathlib.Core.List.{List}
 use mathlib.Core.Path.{_≡_}

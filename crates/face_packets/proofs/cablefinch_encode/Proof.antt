@@ -12,7 +12,7 @@ use Rattle.packet.specs.Wire.{packetBytes, partsOf}
 use Rattle.packet_write.specs.Writing.{writing}
 use Rattle.packet.specs.declared.Mode.{Mode}
 use Rattle.packet_mode.specs.Statement.{modeOf}
-use Rattle.face_packets.proofs.OutcomeLaws.{typed-refused, typed-known, number-known}
+use Rattle.face_parts.proofs.OutcomeLaws.{typed-refused, typed-known, number-known}
 use borrow.Author.Needs.{needs}
 use Rattle.face_packets.proofs.cablefinch_encode.Statement.{statement}
 use Rattle.face_packets.proofs.cablefinch_encode.Tie as tie

@@ -16,7 +16,7 @@ use Rattle.packet.specs.declared.PacketType.the-variants.{Message, Ack, SslAck}
 use Rattle.packet.specs.Layout.{lastType}
 use Rattle.packet.specs.Paper.{typeNumber}
 use Rattle.packet.specs.Entries.{room, offsetAt, nullAt, outsideAt, isLent, stretchAt, lentAt}
-use Rattle.face_packets.specs.Statement.{unknownType, typed, LendsPart}
+use Rattle.face_parts.specs.Statement.{unknownType, typed, LendsPart}
 
 -- The test of a packet's type
 

@@ -2,8 +2,8 @@
 use Rattle.packet.proofs.Back.{case}
 use Rattle.packet_check.specs.Paper.{paperMeasured}
 use borrow.Author.Needs.{needs}
-use Rattle.face_packets.proofs.measured_outcome.Statement.{statement}
-use Rattle.face_packets.proofs.measured_outcome.Tie as tie
+use Rattle.face_parts.proofs.measured_outcome.Statement.{statement}
+use Rattle.face_parts.proofs.measured_outcome.Tie as tie
 
 enum-known-answer : tie.Need-enum-known-answer
 enum-known-answer c = search needs

@@ -1,10 +1,10 @@
 -- `cablefinch_part` meets its contract: nothing, or where the stretch lies. Assumes nothing.
 use mathlib.Core.Path.{refl}
 use borrow.Author.Tests.{ne-eqb}
-use Rattle.face_packets.proofs.OutcomeLaws.{part-empty, part-outside, part-there}
+use Rattle.face_parts.proofs.OutcomeLaws.{part-empty, part-outside, part-there}
 use borrow.Author.Needs.{needs}
-use Rattle.face_packets.proofs.cablefinch_part.Statement.{statement}
-use Rattle.face_packets.proofs.cablefinch_part.Tie as tie
+use Rattle.face_parts.proofs.cablefinch_part.Statement.{statement}
+use Rattle.face_parts.proofs.cablefinch_part.Tie as tie
 
 part-requires : tie.Need-part-requires
 part-requires c κs = search needs
