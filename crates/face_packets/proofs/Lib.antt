@@ -1,3 +1,2 @@
--- Theorems of the exported functions: what their proofs share, and one result for each statement.
-pub mod OutcomeLaws
+-- One result for each statement of the exported functions.
 pub mod Unique

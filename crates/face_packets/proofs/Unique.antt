@@ -4,11 +4,11 @@ use Prim.Native.Nat.{ℕ}
 use mathlib.Core.List.{List}
 use Rattle.words.specs.Statement.{OneResult}
 use Rattle.words.proofs.Unique.{equal-to-one}
-use Rattle.packet.specs.Statement.{PartChecksumIs}
+use Rattle.packet_sum.specs.Statement.{PartChecksumIs}
 use Rattle.packet_read.specs.Statement.{defaultCeiling}
 use Rattle.words.specs.declared.outcome.Outcome.{Outcome}
 use Rattle.face.proofs.Unique.{equal-to-two}
-use Rattle.face_packets.specs.Statement.{Decodes, Encodes, Measures, Validates, LendsPart, Contains}
+use Rattle.face_packets.specs.Statement.{Decodes, Encodes}
 
 pub cablefinch-decode-with-unique : (mode : ℕ) (s : List ℕ) (limit ceiling : ℕ) (table : List ℕ) → OneResult (λ (x : Outcome × List ℕ). Decodes mode s limit ceiling table (x .0) (x .1))
 cablefinch-decode-with-unique mode s limit ceiling table = equal-to-two _ _
@@ -19,17 +19,5 @@ cablefinch-decode-unique mode s limit table = cablefinch-decode-with-unique mode
 pub cablefinch-encode-unique : (mode type flags : ℕ) (id area table out : List ℕ) → OneResult (λ (x : Outcome × List ℕ). Encodes mode type flags id area table out (x .0) (x .1))
 cablefinch-encode-unique mode type flags id area table out = equal-to-two _ _
 
-pub cablefinch-encoded-size-unique : (mode type : ℕ) (area table : List ℕ) → OneResult (Measures mode type area table)
-cablefinch-encoded-size-unique mode type area table = equal-to-one _
-
-pub cablefinch-validate-unique : (mode type : ℕ) (area table : List ℕ) → OneResult (Validates mode type area table)
-cablefinch-validate-unique mode type area table = equal-to-one _
-
-pub cablefinch-part-unique : (input table : List ℕ) (i : ℕ) → OneResult (LendsPart input table i)
-cablefinch-part-unique input table i = equal-to-one _
-
 pub cablefinch-part-checksum-unique : (input table : List ℕ) (i : ℕ) → OneResult (PartChecksumIs input table i)
 cablefinch-part-checksum-unique input table i = equal-to-one _
-
-pub cablefinch-contains-unique : (flags other : ℕ) → OneResult (Contains flags other)
-cablefinch-contains-unique flags other = equal-to-one _

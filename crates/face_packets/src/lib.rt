@@ -1,13 +1,16 @@
 // Packets: read into a lent part table, written from one. A type is its number; an unknown one is refused by 2, before
 // all else. A mode is a number too: 0 is archive, any other is live.
-ghost use Rattle.packet.specs.Statement.{PartChecksumIs};
+ghost use Rattle.packet_sum.specs.Statement.{PartChecksumIs};
 ghost use Rattle.packet_read.specs.Statement.{defaultCeiling};
-ghost use Rattle.face_packets.specs.Statement.{Decodes, unknownType, Encodes, Measures, Validates, LendsPart, Contains};
+ghost use Rattle.packet_write.specs.Paper.{paper};
+ghost use Rattle.face_parts.specs.Statement.{unknownType};
+ghost use Rattle.face_packets.specs.Statement.{Decodes, Encodes};
 ghost use Rattle.words.specs.Paper.{Tells};
 use guid::Guid;
 use packet::PacketFlags;
 use packet::TypeFound;
 use packet_mode::mode_of;
+use packet_write::Encoded;
 use words::outcome::Outcome;
 use words::outcome::refusal;
 use words::outcome::taken;
@@ -24,7 +27,7 @@ pub extern "C" fn cablefinch_decode_with(
         (now (parts .exit)) ⌝ }
 {
     let mode = mode_of(mode);
-    packet_read::outcome(packet_read::decode_with(
+    packet_answer::outcome(packet_read::decode_with(
         mode,
         input,
         max_message_size,
@@ -44,13 +47,23 @@ pub extern "C" fn cablefinch_decode(
         (now (parts .exit)) ⌝ }
 {
     let mode = mode_of(mode);
-    packet_read::outcome(packet_read::decode(mode, input, max_message_size, parts))
+    packet_answer::outcome(packet_read::decode(mode, input, max_message_size, parts))
 }
 
 fn unknown_type(kind: u64) -> Outcome
     ensures { λ r. ⌜ Tells (unknownType kind) r ⌝ }
 {
     refusal(2, 0, kind, 0, 0)
+}
+
+// The answer of `encode` in document 01's number and values.
+fn encoded_outcome(answer: Encoded) -> Outcome
+    ensures { λ r. ⌜ Tells (paper answer) r ⌝ }
+{
+    match answer {
+        Encoded::Written(size) => taken(size as u64, 0, 0, 0),
+        Encoded::Refused(error) => packet::refused(error, 0),
+    }
 }
 
 #[no_mangle]
@@ -73,80 +86,14 @@ pub extern "C" fn cablefinch_encode(
             let guid = Guid::from_bytes(id, 0);
             let flags = PacketFlags(flags);
             let mode = mode_of(mode);
-            packet_write::outcome(packet_write::encode(
-                mode,
-                packet_type,
-                flags,
-                guid,
-                area,
-                parts,
-                out,
-            ))
+            encoded_outcome(packet_write::encode(mode, packet_type, flags, guid, area, parts, out))
         }
     }
-}
-
-#[no_mangle]
-pub extern "C" fn cablefinch_encoded_size(
-    mode: u64,
-    kind: u64,
-    area: &[u8],
-    parts: &[u64],
-) -> Outcome
-    ensures { λ r. ⌜ Measures mode kind (now (area .entry)) (now (parts .entry)) r ⌝ }
-{
-    match packet::type_of(kind) {
-        TypeFound::Unknown => unknown_type(kind),
-        TypeFound::Known(packet_type) => {
-            let mode = mode_of(mode);
-            packet_check::measured_outcome(packet_check::encoded_size(
-                mode,
-                packet_type,
-                area,
-                parts,
-            ))
-        }
-    }
-}
-
-#[no_mangle]
-pub extern "C" fn cablefinch_validate(mode: u64, kind: u64, area: &[u8], parts: &[u64]) -> Outcome
-    ensures { λ r. ⌜ Validates mode kind (now (area .entry)) (now (parts .entry)) r ⌝ }
-{
-    match packet::type_of(kind) {
-        TypeFound::Unknown => unknown_type(kind),
-        TypeFound::Known(packet_type) => {
-            let mode = mode_of(mode);
-            packet_check::validated_outcome(packet_check::validate(mode, packet_type, area, parts))
-        }
-    }
-}
-
-// Where part `index` lies in the input and how long it is; an empty part lies at 0.
-#[no_mangle]
-pub extern "C" fn cablefinch_part(input: &[u8], parts: &[u64], index: usize) -> Outcome
-    ensures { λ r. ⌜ LendsPart (now (input .entry)) (now (parts .entry)) index r ⌝ }
-{
-    let length = packet::part(input, parts, index).len();
-    if length == 0 {
-        return taken(0, 0, 0, 0);
-    }
-    if parts.len() / packet::ENTRY_WORDS <= index {
-        return taken(0, 0, 0, 0);
-    }
-    taken(0, parts[packet::ENTRY_WORDS * index], length as u64, 0)
 }
 
 #[no_mangle]
 pub extern "C" fn cablefinch_part_checksum(input: &[u8], parts: &[u64], index: usize) -> u64
     ensures { λ r. ⌜ PartChecksumIs (now (input .entry)) (now (parts .entry)) index r ⌝ }
 {
-    packet::part_checksum(input, parts, index)
-}
-
-#[no_mangle]
-pub extern "C" fn cablefinch_contains(flags: u16, other: u16) -> bool
-    ensures { λ r. ⌜ Contains flags other r ⌝ }
-{
-    packet::contains(PacketFlags(flags), PacketFlags(other))
+    packet_sum::part_checksum(input, parts, index)
 }

@@ -18,11 +18,11 @@ use Rattle.packet.specs.declared.PacketError.{PacketError}
 use Rattle.packet.specs.Layout.{mostParts, fixedHeaderSize, partHeaderSize, hasVariableHeader, type, count, fields, whole}
 use Rattle.packet.specs.Entries.{entryWords, room, entries}
 use Rattle.packet.specs.Paper.{numberOf, fieldsOf}
-use Rattle.packet_read.specs.declared.Decoded.{Decoded}
-use Rattle.packet_read.specs.declared.Decoded.the-variants.{Read, More, Refused}
+use Rattle.packet_answer.specs.declared.Decoded.{Decoded}
+use Rattle.packet_answer.specs.declared.Decoded.the-variants.{Read, More, Refused}
 use Rattle.packet.specs.declared.Mode.the-variants.{Archive}
 use Rattle.packet_read.specs.Reading.{Limits, limited, reading}
-use Rattle.packet_read.specs.Paper as Read
+use Rattle.packet_answer.specs.Paper as Read
 use Rattle.packet_read.specs.Statement.{Decodes}
 use Rattle.packet_read.proofs.EntryLaws.{length-entries}
 use Rattle.packet_read.proofs.Lines.{Before, rest, front, reading-is, lines-before, lines-behind, pass-bare, pass-before, pass-behind}

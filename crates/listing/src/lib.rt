@@ -6,7 +6,7 @@ use packet::NULL_CHECKSUM;
 use packet::NULL_LENGTH;
 use packet::refused;
 use packet::type_number;
-use packet_read::Decoded;
+use packet_answer::Decoded;
 use text::put_bytes;
 use text::put_field;
 use text::put_id;

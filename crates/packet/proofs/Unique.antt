@@ -10,7 +10,7 @@ use Rattle.packet.specs.declared.Mode.{Mode}
 use Rattle.packet.specs.declared.TypeFound.the-variants.{Known, Unknown}
 use Rattle.packet.specs.declared.PacketFlags.{PacketFlags}
 use Rattle.packet.specs.declared.PacketError.{PacketError}
-use Rattle.packet.specs.Statement.{NumbersType, FindsType, Refuses, TellsRetired, TellsVariableHeader, Contains, TellsNull, TellsOutside, LendsPart, PartChecksumIs}
+use Rattle.packet.specs.Statement.{NumbersType, FindsType, Refuses, TellsRetired, TellsVariableHeader, Contains, TellsNull, TellsOutside, LendsPart}
 use Rattle.packet.proofs.Back.{type-injective, type-known}
 
 pub type-number-unique : (type : PacketType) → OneResult (NumbersType type)
@@ -45,6 +45,3 @@ pub part-unique : (input table : List ℕ) (i : ℕ) (from : ℕ × ℕ)
     → OneResult (λ (x : List ℕ × (ℕ × ℕ)). LendsPart input table i from (x .0) (x .1))
 part-unique input table i from x x′ p q =
     λ j. ((p .bytes ∙ sym (q .bytes)) j, ((p .block ∙ sym (q .block)) j, (p .offset ∙ sym (q .offset)) j))
-
-pub part-checksum-unique : (input table : List ℕ) (i : ℕ) → OneResult (PartChecksumIs input table i)
-part-checksum-unique input table i = equal-to-one _

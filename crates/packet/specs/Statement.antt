@@ -7,7 +7,6 @@ use lib.Bits.{bitAnd}
 use Rattle.words.specs.Decide.{_=?_}
 use Rattle.words.specs.Paper.{Tells}
 use Rattle.words.specs.declared.outcome.Outcome.{Outcome}
-use Rattle.crc64.specs.Polynomial.{checksum}
 use Rattle.packet.specs.declared.PacketType.{PacketType}
 use Rattle.packet.specs.declared.Mode.{Mode}
 use Rattle.packet.specs.declared.TypeFound.{TypeFound}
@@ -54,6 +53,3 @@ pub record LendsPart (input table : List ℕ) (i : ℕ) (from : ℕ × ℕ) (r :
   pub bytes : r ≡ lentAt input table i
   pub block : at .0 ≡ from .0
   pub offset : at .1 ≡ from .1 + lentFrom input table i
-
-abbrev pub PartChecksumIs : List ℕ → List ℕ → ℕ → ℕ → Type 0
-PartChecksumIs input table i r = r ≡ checksum (lentAt input table i)

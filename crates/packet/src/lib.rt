@@ -5,7 +5,7 @@ use words::outcome::NoRoom;
 use words::outcome::Outcome;
 use words::outcome::refusal;
 use words::outcome::room_number;
-ghost use Rattle.packet.specs.Statement.{TellsRetired, TellsVariableHeader, Contains, TellsNull, TellsOutside, LendsPart, PartChecksumIs, NumbersType, FindsType, Refuses};
+ghost use Rattle.packet.specs.Statement.{TellsRetired, TellsVariableHeader, Contains, TellsNull, TellsOutside, LendsPart, NumbersType, FindsType, Refuses};
 
 pub const SIGNATURE: u32 = 0x7861_6d4f;
 
@@ -250,11 +250,4 @@ pub fn part<'a>(input: &'a [u8], parts: &[u64], index: usize) -> &'a [u8]
     let start = offset as usize;
     let end = start + length as usize;
     &input[start..end]
-}
-
-// The checksum of the stretch that `part` lends.
-pub fn part_checksum(input: &[u8], parts: &[u64], index: usize) -> u64
-    ensures { λ r. ⌜ PartChecksumIs (now (input .entry)) (now (parts .entry)) index r ⌝ }
-{
-    checksum::checksum(part(input, parts, index))
 }

@@ -5,7 +5,7 @@ use mathlib.Core.List.{List}
 use Prim.Native.Nat.{ℕ}
 use Rattle.words.specs.Answer.{Answer}
 use Rattle.words.specs.Statement.{OneResult}
-use Rattle.words.proofs.Unique.{equal-to-one, means-one}
+use Rattle.words.proofs.Unique.{means-one}
 use Rattle.packet.specs.declared.Mode.{Mode}
 use Rattle.packet.specs.declared.PacketType.{PacketType}
 use Rattle.packet.proofs.Back.{told, told-back}
@@ -14,7 +14,7 @@ use Rattle.packet_check.specs.declared.Validated.the-variants.{Valid, Re
 use Rattle.packet_check.specs.declared.Measured.{Measured}
 use Rattle.packet_check.specs.declared.Measured.the-variants.{Size, Refused as Unsized}
 use Rattle.packet_check.specs.Paper.{paperValidated, paperMeasured}
-use Rattle.packet_check.specs.Statement.{Validates, Measures, TellsValidated, TellsMeasured}
+use Rattle.packet_check.specs.Statement.{Validates, Measures}
 
 abbrev validated-back : Answer → Validated
 validated-back = told (λ n. Valid) Refused
@@ -35,9 +35,3 @@ validate-unique mode type area table = means-one paperValidated validated-back v
 
 pub encoded-size-unique : (mode : Mode) (type : PacketType) (area table : List ℕ) → OneResult (Measures mode type area table)
 encoded-size-unique mode type area table = means-one paperMeasured measured-back measured-undone _
-
-pub validated-outcome-unique : (answer : Validated) → OneResult (TellsValidated answer)
-validated-outcome-unique answer = equal-to-one _
-
-pub measured-outcome-unique : (answer : Measured) → OneResult (TellsMeasured answer)
-measured-outcome-unique answer = equal-to-one _

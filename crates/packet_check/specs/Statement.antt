@@ -2,8 +2,6 @@
 use Prim.Native.Nat.{ℕ}
 use mathlib.Core.List.{List}
 use Rattle.words.specs.Statement.{Means}
-use Rattle.words.specs.Paper.{Tells}
-use Rattle.words.specs.declared.outcome.Outcome.{Outcome}
 use Rattle.packet.specs.declared.Mode.{Mode}
 use Rattle.packet.specs.declared.PacketType.{PacketType}
 use Rattle.packet.specs.Paper.{typeNumber}
@@ -17,10 +15,3 @@ Validates mode type area table r = Means paperValidated (validating mode (typeNu
 
 abbrev pub Measures : Mode → PacketType → List ℕ → List ℕ → Measured → Type 0
 Measures mode type area table r = Means paperMeasured (sizing mode (typeNumber type) area table) r
-
--- the answers in words
-abbrev pub TellsValidated : Validated → Outcome → Type 0
-TellsValidated answer r = Tells (paperValidated answer) r
-
-abbrev pub TellsMeasured : Measured → Outcome → Type 0
-TellsMeasured answer r = Tells (paperMeasured answer) r

@@ -13,8 +13,6 @@ use packet::is_null;
 use packet::is_outside;
 use packet::is_retired;
 use packet::type_number;
-use words::outcome::Outcome;
-use words::outcome::taken;
 ghost use mathlib.Core.Path.{_≡_};
 ghost use Prim.Native.Nat.{_≤_, _*_};
 ghost use Rattle.packet.specs.Layout.{largestPart};
@@ -23,7 +21,7 @@ ghost use Rattle.packet.specs.Entries as Entries;
 ghost use Rattle.packet.specs.Entries.{room, isTooLarge, takenFrom};
 ghost use Rattle.packet_check.specs.Checks.{capped, firstTooLarge};
 ghost use Rattle.packet_check.specs.Stages.{outsideOf, Small, sizeBy};
-ghost use Rattle.packet_check.specs.Statement.{Validates, Measures, TellsValidated, TellsMeasured};
+ghost use Rattle.packet_check.specs.Statement.{Validates, Measures};
 
 // The largest number that a refusal carries in 32 bits.
 const MAX_CARRIED: u32 = 0xffff_ffff;
@@ -168,25 +166,5 @@ pub fn encoded_size(mode: Mode, packet_type: PacketType, area: &[u8], parts: &[u
     match validate(mode, packet_type, area, parts) {
         Validated::Refused(error) => Measured::Refused(error),
         Validated::Valid => Measured::Size(size(packet_type, parts)),
-    }
-}
-
-// The answer of `validate` in document 01's number and values.
-pub fn validated_outcome(answer: Validated) -> Outcome
-    ensures { λ r. ⌜ TellsValidated answer r ⌝ }
-{
-    match answer {
-        Validated::Valid => taken(0, 0, 0, 0),
-        Validated::Refused(error) => packet::refused(error, 0),
-    }
-}
-
-// The answer of `encoded_size` in document 01's number and values.
-pub fn measured_outcome(answer: Measured) -> Outcome
-    ensures { λ r. ⌜ TellsMeasured answer r ⌝ }
-{
-    match answer {
-        Measured::Size(size) => taken(size as u64, 0, 0, 0),
-        Measured::Refused(error) => packet::refused(error, 0),
     }
 }

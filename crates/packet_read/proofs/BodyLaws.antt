@@ -18,13 +18,13 @@ use Rattle.packet.specs.declared.PacketError.the-variants.{TooManyParts, PartCh
 use Rattle.packet.specs.Layout.{mostParts, fixedHeaderSize, hasVariableHeader, type, count, fields, whole}
 use Rattle.packet.specs.Entries.{room, entries, entriesFrom}
 use Rattle.packet.specs.Paper.{typeNumber, fieldsOf}
-use Rattle.packet_read.specs.declared.Decoded.{Decoded}
-use Rattle.packet_read.specs.declared.Decoded.the-variants as Decoded
+use Rattle.packet_answer.specs.declared.Decoded.{Decoded}
+use Rattle.packet_answer.specs.declared.Decoded.the-variants as Decoded
 use Rattle.packet_read.specs.declared.Fixed.the-variants as Fixed
 use Rattle.packet_read.specs.declared.Variable.the-variants as Variable
 use Rattle.packet_read.specs.declared.Parts.the-variants.{Failing, Good}
 use Rattle.packet_read.specs.Reading.{Limits, limited, reading, fixedLines, countLines, roomLines}
-use Rattle.packet_read.specs.Paper.{paper}
+use Rattle.packet_answer.specs.Paper.{paper}
 use Rattle.packet_read.specs.Statement.{Decodes}
 use Rattle.packet_read.specs.Stages.{through, behind, FixedStage, VariableStage, PartsStage, BodyStage}
 use Rattle.packet_read.proofs.OrderLaws.{order-split, parts-fail, parts-pass, room-short, room-pass, count-high, count-bare, count-pass}

@@ -24,9 +24,9 @@ use Rattle.packet_read.specs.declared.Variable.{Variable}
 use Rattle.packet_read.specs.declared.Variable.the-variants as Variable
 use Rattle.packet_read.specs.declared.Parts.{Parts}
 use Rattle.packet_read.specs.declared.Parts.the-variants.{Failing, Good}
-use Rattle.packet_read.specs.declared.Decoded.{Decoded}
+use Rattle.packet_answer.specs.declared.Decoded.{Decoded}
 use Rattle.packet_read.specs.Reading.{fails, firstTooLarge, firstFailing, fixedLines, variableLines, sizeLines, partLines, roomLines}
-use Rattle.packet_read.specs.Paper.{paper}
+use Rattle.packet_answer.specs.Paper.{paper}
 
 -- a piece of the order, and then `rest`
 abbrev pub through : List (Line Told) → Answer → Answer

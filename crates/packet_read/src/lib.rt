@@ -27,11 +27,9 @@ use packet::TYPE_AT;
 use packet::TypeFound;
 use packet::has_variable_header;
 use packet::is_retired;
-use packet::type_number;
+use packet_answer::Decoded;
 use words::outcome::NoRoom;
-use words::outcome::Outcome;
 use words::outcome::Room;
-use words::outcome::unfinished;
 use words::read::read_u16;
 use words::read::read_u32;
 use words::read::read_u64;
@@ -46,17 +44,11 @@ ghost use Rattle.packet.specs.Layout.{nullSize, largestPart, mostParts, headers
 ghost use Rattle.packet.specs.Entries.{nullLength, entryWords, entriesFrom};
 ghost use Rattle.packet.specs.Paper.{typeNumber, fieldsOf};
 ghost use Rattle.packet_read.specs.Reading.{limited};
-ghost use Rattle.packet_read.specs.Statement.{Decodes, TellsDecoded, defaultCeiling};
+ghost use Rattle.packet_read.specs.Statement.{Decodes, defaultCeiling};
 ghost use Rattle.packet_read.specs.Stages.{Verifies, PartVerifies, FixedStage, SizesStage, SizedStage, VariableStage, PartsStage, BodyStage};
 
 // How many parts `decode` accepts in one packet.
 pub const DEFAULT_MAX_PART_COUNT: u32 = 0x1_0000;
-
-pub enum Decoded {
-    Read { packet: Packet, consumed: usize },
-    More,
-    Refused { error: PacketError, consumed: usize },
-}
 
 enum Verdict {
     Passed,
@@ -393,29 +385,4 @@ pub fn decode(mode: Mode, input: &[u8], max_message_size: u64, parts: &mut [u64]
         (now (parts .entry)) r (now (parts .exit)) ⌝ }
 {
     decode_with(mode, input, max_message_size, DEFAULT_MAX_PART_COUNT, parts)
-}
-
-// The answer in document 01's number and values.
-pub fn outcome(answer: Decoded) -> Outcome
-    ensures { λ r. ⌜ TellsDecoded answer r ⌝ }
-{
-    match answer {
-        Decoded::More => unfinished(),
-        Decoded::Refused { error, consumed } => packet::refused(error, consumed),
-        Decoded::Read { packet, consumed } => {
-            let packet_type = packet.packet_type;
-            Outcome {
-                kind: words::outcome::ACCEPTED,
-                number: 0,
-                count: consumed as u64,
-                v0: type_number(packet_type) as u64,
-                v1: packet.flags.0 as u64,
-                v2: packet.id.w0 as u64,
-                v3: packet.id.w1 as u64,
-                v4: packet.id.w2 as u64,
-                v5: packet.id.w3 as u64,
-                v6: packet.parts as u64,
-            }
-        }
-    }
 }

@@ -5,7 +5,7 @@ use Prim.Native.Nat.{ℕ}
 use lib.ListN.{length}
 use Rattle.words.specs.Answer.{Answer}
 use Rattle.words.specs.Statement.{OneResult}
-use Rattle.words.proofs.Unique.{equal-to-one, means-one, holds-one}
+use Rattle.words.proofs.Unique.{means-one, holds-one}
 use Rattle.guid.specs.declared.Guid.{Guid}
 use Rattle.packet.specs.declared.Mode.{Mode}
 use Rattle.packet.specs.declared.PacketType.{PacketType}
@@ -16,7 +16,7 @@ use Rattle.packet_write.specs.declared.Encoded.{Encoded}
 use Rattle.packet_write.specs.declared.Encoded.the-variants.{Written, Refused}
 use Rattle.packet_write.specs.Paper.{paper}
 use Rattle.packet_write.specs.Writing.{writing}
-use Rattle.packet_write.specs.Statement.{Encodes, TellsEncoded, bytesFor}
+use Rattle.packet_write.specs.Statement.{Encodes, bytesFor}
 
 abbrev encoded-back : Answer → Encoded
 encoded-back = told Written Refused
@@ -32,6 +32,3 @@ encode-unique mode type flags id area table out x x′ p q =
     let same = means-one paper encoded-back encoded-undone answer (x .0) (x′ .0) (p .answer) (q .answer) in
     let out-same = holds-one answer (bytesFor type flags id area table) out (x .1) (x′ .1) (p .output) (q .output) in
     λ i. (same i, out-same i)
-
-pub outcome-unique : (answer : Encoded) → OneResult (TellsEncoded answer)
-outcome-unique answer = equal-to-one _

@@ -3,8 +3,6 @@ use Prim.Native.Nat.{ℕ}
 use mathlib.Core.List.{List}
 use lib.ListN.{length}
 use Rattle.words.specs.Statement.{Means, Holds}
-use Rattle.words.specs.Paper.{Tells}
-use Rattle.words.specs.declared.outcome.Outcome.{Outcome}
 use Rattle.guid.specs.declared.Guid.{Guid}
 use Rattle.packet.specs.declared.Mode.{Mode}
 use Rattle.packet.specs.declared.PacketType.{PacketType}
@@ -26,7 +24,3 @@ pub record Encodes (mode : Mode) (type : PacketType) (flags : PacketFlags) (id :
   pub answer : Means paper (writing mode (typeNumber type) area table (length out)) r
   pub output :
       Holds (writing mode (typeNumber type) area table (length out)) (bytesFor type flags id area table) out after
-
--- the answer in words
-abbrev pub TellsEncoded : Encoded → Outcome → Type 0
-TellsEncoded answer r = Tells (paper answer) r

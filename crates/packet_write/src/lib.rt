@@ -20,9 +20,7 @@ use packet::TYPE_AT;
 use packet::type_number;
 use packet_check::Measured;
 use words::outcome::NoRoom;
-use words::outcome::Outcome;
 use words::outcome::Room;
-use words::outcome::taken;
 use words::write::write_u16;
 use words::write::write_u32;
 use words::write::write_u64;
@@ -38,7 +36,7 @@ ghost use Rattle.packet.specs.Wire.{sealed, fixedFields, contents, body, partsO
 ghost use Rattle.packet_check.specs.Checks.{firstTooLarge, firstOutside};
 ghost use Rattle.packet_check.specs.Stages.{Passes};
 ghost use Rattle.packet_write.specs.Stages.{entrySize, entrySizes, partsAt, parted};
-ghost use Rattle.packet_write.specs.Statement.{Encodes, TellsEncoded, bytesFor};
+ghost use Rattle.packet_write.specs.Statement.{Encodes, bytesFor};
 
 pub enum Encoded {
     Written(usize),
@@ -183,15 +181,5 @@ pub fn encode(
             write_packet(packet_type, flags, id, area, parts, out);
             Encoded::Written(needed)
         }
-    }
-}
-
-// The answer in document 01's number and values.
-pub fn outcome(answer: Encoded) -> Outcome
-    ensures { λ r. ⌜ TellsEncoded answer r ⌝ }
-{
-    match answer {
-        Encoded::Written(size) => taken(size as u64, 0, 0, 0),
-        Encoded::Refused(error) => packet::refused(error, 0),
     }
 }

@@ -19,7 +19,7 @@ use Rattle.crc64.specs.Damage.{Damaged}
 use Rattle.packet.specs.Layout.{packetSignature, nullSize, largestPart, lastType, fixedFieldsSize, fixedHeaderSize, hasVariableHeader, headers, signature, type, count, fixedSum, fixedFields, size, isNull, taken, takenBefore, partSum, variable, variableSum, start, whole, part}
 use Rattle.packet.specs.declared.Mode.{Mode}
 use Rattle.packet.specs.Mode.{isRetired}
-use Rattle.packet_read.specs.Paper.{paper}
+use Rattle.packet_answer.specs.Paper.{paper}
 use Rattle.packet.specs.Paper.{fieldsOf}
 use Rattle.promises.proofs.TablesKeep.{packet-tables-keep}
 use Rattle.packet.specs.Entries.{entryWords}

@@ -14,7 +14,7 @@ use Rattle.packet.specs.Paper.{typeNumber}
 use Rattle.packet.specs.Wire.{Part, null, bytes, partsFrom, partsOf}
 use Rattle.packet.specs.declared.Mode.{Mode}
 use Rattle.packet.specs.declared.Packet.{Packet}
-use Rattle.packet_read.specs.declared.Decoded.the-variants.{Read}
+use Rattle.packet_answer.specs.declared.Decoded.the-variants.{Read}
 use Rattle.packet_read.specs.Statement.{Decodes}
 use Rattle.packet_check.specs.Checks.{tableLines, limitLines, checks, firstOutside, firstTooLarge, validating, sizing}
 use Rattle.packet_write.specs.Writing.{writing}

@@ -22,8 +22,8 @@ use Rattle.packet.specs.Entries.{entryWords, entries, room, outsideAt}
 use Rattle.packet.specs.Mode.{retiredType}
 use Rattle.packet.specs.Paper.{typeNumber}
 use Rattle.packet.specs.Wire.{packetSize, partsOf}
-use Rattle.packet_read.specs.declared.Decoded.{Decoded}
-use Rattle.packet_read.specs.declared.Decoded.the-variants as decoded
+use Rattle.packet_answer.specs.declared.Decoded.{Decoded}
+use Rattle.packet_answer.specs.declared.Decoded.the-variants as decoded
 use Rattle.packet_read.specs.Reading.{Limits, limited, order, fixedLines, countLines, variableLines, sizeLines, partLines, roomLines, reading}
 use Rattle.packet_read.specs.Stages.{through}
 use Rattle.packet_read.specs.Statement.{Decodes}

@@ -5,10 +5,12 @@ pub use Rattle.numerals.proofs.Unique.{hex-size-unique, write-hex-unique, decim
 pub use Rattle.crc64.proofs.Unique.{table-unique, swap-bytes-unique, fold-over-unique, fold-unique}
 pub use Rattle.guid.proofs.Unique.{Guid-from-parts-unique, Guid-parts-unique, Guid-from-halves-unique, Guid-halves-unique, Guid-is-null-unique, Guid-from-bytes-unique, Guid-write-unique}
 pub use Rattle.guid_text.proofs.Unique.{text-size-unique, print-unique, parse-unique}
-pub use Rattle.packet.proofs.Unique.{type-number-unique, type-of-unique, refused-unique, is-retired-unique, has-variable-header-unique, contains-unique, is-null-unique, is-outside-unique, part-unique, part-checksum-unique}
-pub use Rattle.packet_read.proofs.Unique.{decode-with-unique, decode-unique, outcome-unique as decoded-outcome-unique}
-pub use Rattle.packet_check.proofs.Unique.{validate-unique, encoded-size-unique as packet-encoded-size-unique, validated-outcome-unique, measured-outcome-unique}
-pub use Rattle.packet_write.proofs.Unique.{encode-unique, outcome-unique as encoded-outcome-unique}
+pub use Rattle.packet.proofs.Unique.{type-number-unique, type-of-unique, refused-unique, is-retired-unique, has-variable-header-unique, contains-unique, is-null-unique, is-outside-unique, part-unique}
+pub use Rattle.packet_sum.proofs.Unique.{part-checksum-unique}
+pub use Rattle.packet_answer.proofs.Unique.{outcome-unique as decoded-outcome-unique}
+pub use Rattle.packet_read.proofs.Unique.{decode-with-unique, decode-unique}
+pub use Rattle.packet_check.proofs.Unique.{validate-unique, encoded-size-unique as packet-encoded-size-unique}
+pub use Rattle.packet_write.proofs.Unique.{encode-unique}
 pub use Rattle.wire.proofs.Unique.{values-in-unique, padded-unique, flag-unique, kind-of-unique, need-at-unique, outcome-unique as wire-error-outcome-unique}
 pub use Rattle.wire_value.proofs.Unique.{read-header-unique, check-value-unique, read-value-unique, outcome-unique as read-value-outcome-unique}
 pub use Rattle.wire_read.proofs.Unique.{decode-rowset-unique, is-plain-unique}

@@ -20,11 +20,11 @@ use Rattle.packet.specs.Entries.{entryWords, entry, entriesFrom, entries, room}
 use Rattle.packet_read.specs.Reading.{Limits, reading}
 use Rattle.packet.specs.Paper.{fieldsOf}
 use Rattle.packet.specs.declared.Packet.{Packet}
-use Rattle.packet_read.specs.declared.Decoded.the-variants.{Read, More}
+use Rattle.packet_answer.specs.declared.Decoded.the-variants.{Read, More}
 use Rattle.packet_read.specs.Statement.{Decodes}
 use Rattle.packet_read.proofs.EntryLaws.{length-entries, words-at}
 use Rattle.packet_read.proofs.SizeLaws.{taken-below}
-use Rattle.packet_read.proofs.Unique.{paper-injective}
+use Rattle.packet_answer.proofs.Back.{paper-injective}
 use Rattle.packet.specs.Entries.{nullLength, offsetAt, sizeAt, sumAt, nullAt, outsideAt, isLent}
 use Rattle.packet.specs.Wire.{Part, null, bytes, content, partsOf}
 use Rattle.packet.proofs.EntryLaws.{none-past, none-null, none-outside, some-inside, lent-none, lent-some, from-none, from-some}

@@ -24,8 +24,8 @@ use Rattle.guid.specs.Guid.{guidOf, wireBytes}
 use Rattle.packet.specs.declared.PacketType.the-variants.{Message as Plain, Ack}
 use Rattle.packet.specs.declared.PacketError.the-variants.{Signature, RetiredType}
 use Rattle.packet.specs.declared.Packet.{Packet}
-use Rattle.packet_read.specs.declared.Decoded.the-variants.{Read, Refused}
-use Rattle.packet_read.specs.Paper.{paper}
+use Rattle.packet_answer.specs.declared.Decoded.the-variants.{Read, Refused}
+use Rattle.packet_answer.specs.Paper.{paper}
 use Rattle.packet_read.specs.Statement.{Decodes}
 use Rattle.packet.specs.Wire as Wire
 use Rattle.packet.specs.Wire.{sealed}

@@ -18,9 +18,9 @@ use Rattle.packet.specs.declared.Packet.{Packet}
 use Rattle.packet.specs.declared.Mode.{Mode}
 use Rattle.packet.specs.declared.Mode.the-variants.{Live}
 use Rattle.packet.specs.Mode.{isRetired}
-use Rattle.packet_read.specs.declared.Decoded.{Decoded}
-use Rattle.packet_read.specs.declared.Decoded.the-variants.{Read}
-use Rattle.packet_read.specs.Paper.{paper}
+use Rattle.packet_answer.specs.declared.Decoded.{Decoded}
+use Rattle.packet_answer.specs.declared.Decoded.the-variants.{Read}
+use Rattle.packet_answer.specs.Paper.{paper}
 use Rattle.packet_read.specs.Statement.{Decodes, defaultCeiling}
 use Rattle.packet_read.specs.Reading.{Limits, limited}
 use Rattle.promises.specs.BitRuns.{bits}

@@ -18,9 +18,9 @@ use Rattle.packet.specs.Layout.{packetSignature, fixedHeaderSize, signature, ty
 use Rattle.packet.specs.Entries.{entryWords, room, outsideAt}
 use Rattle.packet.specs.Mode.{retiredType, isRetired}
 use Rattle.packet.specs.Paper.{typeNumber}
-use Rattle.packet_read.specs.declared.Decoded.{Decoded}
-use Rattle.packet_read.specs.declared.Decoded.the-variants as decoded
-use Rattle.packet_read.specs.Paper as reading
+use Rattle.packet_answer.specs.declared.Decoded.{Decoded}
+use Rattle.packet_answer.specs.declared.Decoded.the-variants as decoded
+use Rattle.packet_answer.specs.Paper as reading
 use Rattle.packet_read.specs.Reading.{limited}
 use Rattle.packet_read.specs.Statement.{Decodes}
 use Rattle.packet_check.specs.declared.Validated.{Validated}

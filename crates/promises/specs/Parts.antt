@@ -16,8 +16,8 @@ use Rattle.packet.specs.declared.Mode.{Mode}
 use Rattle.packet.specs.declared.PacketType.{PacketType}
 use Rattle.packet.specs.declared.PacketFlags.{PacketFlags}
 use Rattle.packet.specs.declared.Packet.{Packet}
-use Rattle.packet_read.specs.declared.Decoded.{Decoded}
-use Rattle.packet_read.specs.declared.Decoded.the-variants.{Read, More}
+use Rattle.packet_answer.specs.declared.Decoded.{Decoded}
+use Rattle.packet_answer.specs.declared.Decoded.the-variants.{Read, More}
 use Rattle.packet_read.specs.Reading.{Limits}
 use Rattle.packet_read.specs.Statement.{Decodes}
 use Rattle.packet.specs.Entries.{nullAt, outsideAt}

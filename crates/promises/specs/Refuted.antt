@@ -14,9 +14,9 @@ use Rattle.packet.specs.Layout.{count, fixedSum, fixedFields}
 use Rattle.packet_read.specs.Reading.{Limits, reading}
 use Rattle.packet.specs.declared.Packet.{Packet}
 use Rattle.packet.specs.declared.Mode.the-variants.{Archive}
-use Rattle.packet_read.specs.declared.Decoded.{Decoded}
-use Rattle.packet_read.specs.declared.Decoded.the-variants.{Read}
-use Rattle.packet_read.specs.Paper.{paper}
+use Rattle.packet_answer.specs.declared.Decoded.{Decoded}
+use Rattle.packet_answer.specs.declared.Decoded.the-variants.{Read}
+use Rattle.packet_answer.specs.Paper.{paper}
 use Rattle.packet_read.specs.Statement.{Decodes}
 use Rattle.promises.specs.BitRuns.{bits, Unseen}
 use Rattle.promises.specs.Damage.{Stretch, fixedHeader, Has, from, long, stored, Inside, Hit, Names, NamedWhere}

@@ -9,14 +9,14 @@ use Rattle.words.specs.declared.outcome.NoRoom.{NoRoom}
 use Rattle.guid.specs.declared.Guid.{Guid}
 use Rattle.guid_text.specs.declared.Printed.the-variants as printed
 use Rattle.guid_text.specs.Statement.{Prints}
-use Rattle.packet_read.specs.declared.Decoded.{Decoded}
+use Rattle.packet_answer.specs.declared.Decoded.{Decoded}
 use Rattle.packet.specs.declared.Mode.{Mode}
 use Rattle.packet.specs.declared.PacketType.{PacketType}
 use Rattle.packet.specs.declared.PacketFlags.{PacketFlags}
 use Rattle.packet.specs.declared.PacketError.{PacketError}
 use Rattle.packet.specs.Layout.{count}
 use Rattle.packet.specs.Entries.{entryWords}
-use Rattle.packet_read.specs.Paper.{paper}
+use Rattle.packet_answer.specs.Paper.{paper}
 use Rattle.packet_read.specs.Reading.{Limits}
 use Rattle.packet_read.specs.Statement.{Decodes}
 use Rattle.packet_write.specs.declared.Encoded.the-variants as packets

@@ -13,14 +13,14 @@ use crate::run::id_of;
 use crate::run::say_id;
 use crate::run::truth;
 use crate::say;
-use face_packets::cablefinch_contains;
 use face_packets::cablefinch_decode;
 use face_packets::cablefinch_decode_with;
 use face_packets::cablefinch_encode;
-use face_packets::cablefinch_encoded_size;
-use face_packets::cablefinch_part;
 use face_packets::cablefinch_part_checksum;
-use face_packets::cablefinch_validate;
+use face_parts::cablefinch_contains;
+use face_parts::cablefinch_encoded_size;
+use face_parts::cablefinch_part;
+use face_parts::cablefinch_validate;
 use packet::ENTRY_WORDS;
 use words::outcome::Outcome;
 

@@ -21,10 +21,11 @@ use Rattle.packet.specs.Statement.{Refuses}
 use Rattle.packet.specs.declared.PacketError.{PacketError}
 use Rattle.packet.specs.declared.PacketError.the-variants.{PartTooLarge, PartChecksum}
 use Rattle.packet_read.specs.Reading.{Limits, limited, order, reading, fixedLines, countLines, variableLines, sizeLines, partLines, roomLines}
-use Rattle.packet_read.specs.Paper.{paper}
-use Rattle.packet_read.specs.Statement.{Decodes, TellsDecoded}
-use Rattle.packet_read.specs.declared.Decoded.{Decoded}
-use Rattle.packet_read.specs.declared.Decoded.the-variants.{Read, More, Refused}
+use Rattle.packet_answer.specs.Paper.{paper}
+use Rattle.packet_answer.specs.Statement.{TellsDecoded}
+use Rattle.packet_read.specs.Statement.{Decodes}
+use Rattle.packet_answer.specs.declared.Decoded.{Decoded}
+use Rattle.packet_answer.specs.declared.Decoded.the-variants.{Read, More, Refused}
 use Rattle.packet.specs.declared.Packet.{Packet}
 use Rattle.finding.specs.Saying.{Saying, fine, waiting, saying, untold, explain}
 use Rattle.why_packet.specs.Checks.{checks, packetChecks}

@@ -9,9 +9,9 @@ use Rattle.words.specs.Decide.{pick, _<?_}
 use Rattle.packet.specs.Layout.{count, fixedHeaderSize, headers, whole}
 use Rattle.packet.specs.declared.PacketError.{PacketError}
 use Rattle.packet.specs.declared.PacketError.the-variants.{Signature, UnknownType, TooManyParts, PartTooLarge, FixedHeaderChecksum, VariableHeaderChecksum, PartChecksum, MessageTooLarge, NoRoom, BadTable, RetiredType}
-use Rattle.packet_read.specs.Paper.{paper}
-use Rattle.packet_read.specs.declared.Decoded.{Decoded}
-use Rattle.packet_read.specs.declared.Decoded.the-variants.{Read, More, Refused}
+use Rattle.packet_answer.specs.Paper.{paper}
+use Rattle.packet_answer.specs.declared.Decoded.{Decoded}
+use Rattle.packet_answer.specs.declared.Decoded.the-variants.{Read, More, Refused}
 use Rattle.finding.specs.Saying.{Saying, waiting}
 use Rattle.finding.specs.Meaning.{meaning}
 use Rattle.why_packet.specs.Stages.{refusalTells, moreTells, tells}

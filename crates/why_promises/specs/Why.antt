@@ -16,9 +16,9 @@ use Rattle.words.specs.Word.{word}
 use Rattle.packet.specs.Layout.{count, headers, whole}
 use Rattle.packet.specs.declared.Mode.{Mode}
 use Rattle.packet_read.specs.Reading.{Limits, limited, order, roomLines}
-use Rattle.packet_read.specs.Paper.{paper}
+use Rattle.packet_answer.specs.Paper.{paper}
 use Rattle.packet_read.specs.Statement.{Decodes}
-use Rattle.packet_read.specs.declared.Decoded.{Decoded}
+use Rattle.packet_answer.specs.declared.Decoded.{Decoded}
 use Rattle.wire.specs.Layout.{maxSize}
 use Rattle.wire_read.specs.Reading.{inputLines}
 use Rattle.wire_read.specs.Plain.{accepts, plain}

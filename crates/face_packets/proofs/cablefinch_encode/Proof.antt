@@ -12,7 +12,7 @@ use Rattle.packet.specs.Wire.{packetBytes, partsOf}
 use Rattle.packet_write.specs.Writing.{writing}
 use Rattle.packet.specs.declared.Mode.{Mode}
 use Rattle.packet_mode.specs.Statement.{modeOf}
-use Rattle.face_packets.proofs.OutcomeLaws.{typed-refused, typed-known, number-known}
+use Rattle.face_parts.proofs.OutcomeLaws.{typed-refused, typed-known, number-known}
 use borrow.Author.Needs.{needs}
 use Rattle.face_packets.proofs.cablefinch_encode.Statement.{statement}
 use Rattle.face_packets.proofs.cablefinch_encode.Tie as tie
@@ -38,8 +38,8 @@ mode-of-requires c κs = search needs
 encode-requires : tie.Need-encode-requires
 encode-requires c κs = search needs
 
-outcome-requires : tie.Need-outcome-requires
-outcome-requires c κs = search needs
+encoded-outcome-requires : tie.Need-encoded-outcome-requires
+encoded-outcome-requires c κs = search needs
 
 returns : tie.Need-returns
 returns c =
@@ -69,7 +69,7 @@ returns-2 c =
     let e = rw (moded .mode-of .ensures) at (call .encode .ensures) in
     let known : a .kind ≤ lastType = number-known (found .0 .0) type in
     let so = typed-known (a .kind) (writing mode (a .kind) area parts (length out)) known in (
-      told (e .answer ∙ ap (λ (k : ℕ). writing mode k area parts (length out)) type ∙ so) (c .outcome .ensures),
+      told (e .answer ∙ ap (λ (k : ℕ). writing mode k area parts (length out)) type ∙ so) (c .encoded-outcome .ensures),
       e .output
           ∙ ap (λ (k : ℕ). afterwards (writing mode k area parts (length out)) (packetBytes k (a .flags) (identified .from-bytes .result) (partsOf area parts)) out) type
           ∙ ap (λ (g : Guid). afterwards (writing mode (a .kind) area parts (length out)) (packetBytes (a .kind) (a .flags) g (partsOf area parts)) out) id
@@ -87,7 +87,7 @@ cablefinch-encode-spec =
     from-bytes-requires
     mode-of-requires
     encode-requires
-    outcome-requires
+    encoded-outcome-requires
     returns
     same-length
     returns-2)

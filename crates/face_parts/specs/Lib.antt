@@ -1,0 +1,2 @@
+-- What each exported function promises.
+pub mod Statement

@@ -1,0 +1,2 @@
+-- One result for the statement of the crate's function.
+pub mod Unique

@@ -1,0 +1,2 @@
+-- What the crate's function promises.
+pub mod Statement
