@@ -14,8 +14,8 @@ use Rattle.packet.specs.declared.Mode.{Mode}
 use Rattle.packet_mode.specs.Statement.{modeOf}
 use Rattle.face_parts.proofs.OutcomeLaws.{typed-refused, typed-known, number-known}
 use borrow.Author.Needs.{needs}
-use Rattle.face_packets.proofs.cablefinch_encode.Statement.{statement}
-use Rattle.face_packets.proofs.cablefinch_encode.Tie as tie
+use Rattle.face_packet_write.proofs.cablefinch_encode.Statement.{statement}
+use Rattle.face_packet_write.proofs.cablefinch_encode.Tie as tie
 
 type-of-requires : tie.Need-type-of-requires
 type-of-requires c κs = search needs

@@ -2,8 +2,8 @@
 use Rattle.packet.proofs.Back.{case}
 use Rattle.packet_write.specs.Paper.{paper}
 use borrow.Author.Needs.{needs}
-use Rattle.face_packets.proofs.encoded_outcome.Statement.{statement}
-use Rattle.face_packets.proofs.encoded_outcome.Tie as tie
+use Rattle.face_packet_write.proofs.encoded_outcome.Statement.{statement}
+use Rattle.face_packet_write.proofs.encoded_outcome.Tie as tie
 
 enum-known-answer : tie.Need-enum-known-answer
 enum-known-answer c = search needs

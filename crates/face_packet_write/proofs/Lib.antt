@@ -1,0 +1,2 @@
+-- One result for the statement of the exported function.
+pub mod Unique
