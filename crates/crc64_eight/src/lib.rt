@@ -6,7 +6,6 @@ ghost use Rattle.crc64.specs.Table.{foldOver};
 ghost use mathlib.Core.Path.{_≡_};
 ghost use Prim.Native.Nat.{_≤_, _/_};
 ghost use lib.ListN.{length, drop};
-use words::read;
 
 // The numbers of one table, and of eight.
 const ONE_TABLE: usize = 256;
@@ -2104,7 +2103,7 @@ fn fold_words(tables: &[u64], register: u64, bytes: &[u8]) -> u64
     let mut folded = register;
     let mut i = 0;
     while bytes.len() - i >= 8 {
-        folded = looked_up(tables, folded ^ read::read_u64(bytes, i));
+        folded = looked_up(tables, folded ^ word_read::read_u64(bytes, i));
         i += 8;
     }
     folded

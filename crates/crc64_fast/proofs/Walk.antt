@@ -13,7 +13,7 @@ use borrow.Rule.Slice.PartMut.{midOf, putMid}
 use Rattle.words.specs.Word.{word, bytesOf, Bytes}
 use Rattle.words.specs.Decide.{pick}
 use Rattle.words.specs.Buffer.{over, fitted}
-use Rattle.words.specs.Filling.{Filling}
+use Rattle.words.specs.Stages.{Filling}
 use Rattle.words.proofs.WordLaws.{word-split, word-past, bytesOf-word, bytesOf-split, length-bytesOf}
 use Rattle.words.proofs.BufferLaws.{over-store, fitted-fits, fitted-short, length-over}
 use Rattle.words.proofs.FillingLaws.{word-step, ends, place, length-now}

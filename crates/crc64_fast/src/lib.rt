@@ -10,8 +10,6 @@ ghost use Rattle.words.specs.Word.{word, bytesOf};
 ghost use Rattle.words.specs.Decide.{pick};
 ghost use Rattle.words.specs.Buffer.{over, fitted};
 ghost use Rattle.crc64_fast.specs.Statement.{Copies, FoldHeldIs, FoldFastIs};
-use words::read;
-use words::write;
 
 // The lowest `count` bytes of the word, over the front of `out`.
 fn write_low(word: u64, count: usize, out: &mut [u8])
@@ -19,7 +17,7 @@ fn write_low(word: u64, count: usize, out: &mut [u8])
     ensures { λ _. ⌜ now (out .exit) ≡ over (bytesOf count word) (now (out .entry)) ⌝ }
 {
     if count == 8 {
-        write::write_u64(out, word);
+        word_write::write_u64(out, word);
         return;
     }
     let mut left = word;
@@ -39,9 +37,9 @@ fn first_word(bytes: &[u8], count: usize, short: bool, out: &mut [u8]) -> u64
         × (now (out .exit) ≡ pick short (now (out .entry)) (over (bytesOf count r) (now (out .entry)))) ⌝ }
 {
     if short {
-        return read::read_u64(bytes, 0);
+        return word_read::read_u64(bytes, 0);
     }
-    let word = read::read_u64(&bytes[..count], 0);
+    let word = word_read::read_u64(&bytes[..count], 0);
     write_low(word, count, out);
     word
 }
@@ -53,11 +51,11 @@ fn next_word(bytes: &[u8], i: usize, short: bool, out: &mut [u8]) -> u64
         × (now (out .exit) ≡ pick short (now (out .entry)) (putMid i (length (now (out .entry)) - i) (now (out .entry))
         (fitted (bytesOf 8 r) (midOf i (length (now (out .entry)) - i) (now (out .entry)))))) ⌝ }
 {
-    let word = read::read_u64(bytes, i);
+    let word = word_read::read_u64(bytes, i);
     if short {
         return word;
     }
-    write::write_u64(&mut out[i..], word);
+    word_write::write_u64(&mut out[i..], word);
     word
 }
 

@@ -9,7 +9,7 @@ use lib.Seq.{take-all, drop-append-le, length-take-le}
 use borrow.Rule.Slice.PartMut.{midOf, putMid}
 use Rattle.words.specs.Word.{word, bytesOf, Bytes}
 use Rattle.words.specs.Buffer.{over, fitted}
-use Rattle.words.specs.Filling.{Filling}
+use Rattle.words.specs.Stages.{Filling}
 use Rattle.words.proofs.WordLaws.{length-bytesOf}
 use Rattle.words.proofs.BufferLaws.{fitted-fits}
 use Rattle.words.proofs.FillingLaws.{closes, leaves}

@@ -9,13 +9,12 @@ ghost use lib.ListN.{length, take, drop};
 ghost use borrow.Rule.Slice.PartMut.{midOf, putMid};
 ghost use Rattle.words.specs.Decide.{pick};
 ghost use Rattle.words.specs.Buffer.{over, fitted};
-ghost use Rattle.words.specs.Filling.{Filling};
+ghost use Rattle.words.specs.Stages.{Filling};
 ghost use Rattle.crc64.specs.Table.{swapped};
 ghost use Rattle.crc64_fast.specs.Statement.{Copies, FoldHeldIs};
 ghost use Rattle.crc64_lanes.specs.Stages.{entering, waits};
 use crc64_fast::fold_held;
-use words::read::read_u64;
-use words::write;
+use word_read::read_u64;
 
 // From how many bytes on this pays, measured.
 pub const LANES_FROM: usize = 96;
@@ -40,7 +39,7 @@ fn block(lanes: &mut [u64; 4], bytes: &[u8], i: usize, at: usize, out: &mut [u8]
         let from = i + 8 * l;
         let word = read_u64(&bytes[from..from + 8], 0);
         let to = at + 8 * l;
-        write::write_u64(&mut out[to..to + 8], word);
+        word_write::write_u64(&mut out[to..to + 8], word);
         lanes[l] = crc64_far::far(lanes[l] ^ word);
         l += 1;
     }
@@ -67,7 +66,7 @@ fn put_rest(bytes: &[u8], at: usize, copies: bool, out: &mut [u8])
         (midOf at (length (now (out .entry)) - at) (now (out .entry))))) ⌝ }
 {
     if copies {
-        write::write_bytes(&mut out[at..], &bytes[at..]);
+        word_write::write_bytes(&mut out[at..], &bytes[at..]);
     }
 }
 

@@ -8,7 +8,6 @@ ghost use Rattle.crc64.specs.Polynomial.{fold};
 ghost use mathlib.Core.Path.{_≡_};
 ghost use Prim.Native.Nat.{_+_, _-_, _≤_, _<_};
 ghost use lib.ListN.{length, take, drop};
-use words::write;
 
 // How many bytes a byte that leaves is still owed to.
 const SPAN: usize = 1856;
@@ -131,7 +130,7 @@ pub fn fold_long(register: u64, bytes: &[u8]) -> u64
         return crc64_fast::fold_held(register, bytes);
     }
     let mut window: Window = [0; WINDOW];
-    write::write_u64(&mut window, register);
+    word_write::write_u64(&mut window, register);
     leave_all(&mut window, bytes, bytes.len() - SPAN);
     let mut tail: Tail = [0; SPAN];
     last(bytes, &mut tail);

@@ -7,7 +7,7 @@ use native.Mathlib.Omega.{arith}
 use lib.ListN.{length, set, length-append, take, drop}
 use borrow.Rule.Slice.PartMut.{midOf, putMid}
 use Rattle.words.specs.Buffer.{over, fitted, stretch}
-use Rattle.words.specs.Filling.{Filling}
+use Rattle.words.specs.Stages.{Filling}
 use Rattle.words.proofs.BufferLaws.{over-store, length-over}
 use Rattle.words.proofs.FillingLaws.{begins, opens, ends, room-left, length-now, place, mid-fits, leaves, step, closes}
 use Rattle.varint.specs.Varint.{varint}

@@ -26,9 +26,9 @@ use error_tree::table::ATTRIBUTE_ENTRY;
 use error_tree::table::ERROR_ENTRY;
 use varint::write::varint_size;
 use varint::write::write_varint;
+use word_write::write_bytes;
 use words::outcome::NoRoom;
 use words::outcome::Room;
-use words::write::write_bytes;
 
 pub enum Encoded {
     Written(usize),

@@ -40,6 +40,7 @@ fn encoded_outcome(answer: Encoded) -> Outcome
     }
 }
 
+// Reads a TError into the two lent tables.
 #[no_mangle]
 pub extern "C" fn cablefinch_error_read(
     input: &[u8],
@@ -53,6 +54,7 @@ pub extern "C" fn cablefinch_error_read(
     decoded_outcome(error_read::decode::decode_error(input, errors, attributes))
 }
 
+// How many bytes the TError of these tables has.
 #[no_mangle]
 pub extern "C" fn cablefinch_error_size(area: &[u8], errors: &[u64], attributes: &[u64]) -> Outcome
     ensures { λ r. ⌜ MeasuresError (now (area .entry)) (now (errors .entry)) (now (attributes .entry)) r ⌝ }
@@ -60,6 +62,7 @@ pub extern "C" fn cablefinch_error_size(area: &[u8], errors: &[u64], attributes:
     measured_outcome(error_write::size::error_size(area, errors, attributes))
 }
 
+// Writes the TError of these tables to the front of `out`.
 #[no_mangle]
 pub extern "C" fn cablefinch_error_write(
     area: &[u8],

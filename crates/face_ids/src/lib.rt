@@ -88,6 +88,7 @@ fn write_id(id: Guid, out: &mut [u8]) -> Outcome
     taken(16, 0, 0, 0)
 }
 
+// Writes the id of four words.
 #[no_mangle]
 pub extern "C" fn cablefinch_guid_from_parts(
     w0: u32,
@@ -101,6 +102,7 @@ pub extern "C" fn cablefinch_guid_from_parts(
     write_id(Guid::from_parts(w0, w1, w2, w3), out)
 }
 
+// Writes the id of two halves.
 #[no_mangle]
 pub extern "C" fn cablefinch_guid_from_halves(first: u64, second: u64, out: &mut [u8]) -> Outcome
     ensures { λ r. ⌜ WritesId (guidOfHalves first second) (now (out .entry)) r (now (out .exit)) ⌝ }
@@ -108,6 +110,7 @@ pub extern "C" fn cablefinch_guid_from_halves(first: u64, second: u64, out: &mut
     write_id(Guid::from_halves(first, second), out)
 }
 
+// Prints an id's text.
 #[no_mangle]
 pub extern "C" fn cablefinch_guid_print(id: &[u8], out: &mut [u8]) -> Outcome
     ensures { λ r. ⌜ Prints (now (id .entry)) (now (out .entry)) r (now (out .exit)) ⌝ }
@@ -116,6 +119,7 @@ pub extern "C" fn cablefinch_guid_print(id: &[u8], out: &mut [u8]) -> Outcome
     printed_outcome(guid_text::print(guid, out))
 }
 
+// Reads an id's text: its four words, or 16 with the position and the reason.
 #[no_mangle]
 pub extern "C" fn cablefinch_guid_parse(text: &[u8]) -> Outcome
     ensures { λ r. ⌜ Parses (now (text .entry)) r ⌝ }
@@ -123,6 +127,7 @@ pub extern "C" fn cablefinch_guid_parse(text: &[u8]) -> Outcome
     parsed_outcome(guid_text::parse(text))
 }
 
+// An id's four words.
 #[no_mangle]
 pub extern "C" fn cablefinch_guid_parts(id: &[u8]) -> Outcome
     ensures { λ r. ⌜ GivesParts (now (id .entry)) r ⌝ }
@@ -130,6 +135,7 @@ pub extern "C" fn cablefinch_guid_parts(id: &[u8]) -> Outcome
     words_outcome(Guid::from_bytes(id, 0))
 }
 
+// An id's two halves.
 #[no_mangle]
 pub extern "C" fn cablefinch_guid_halves(id: &[u8]) -> Outcome
     ensures { λ r. ⌜ GivesHalves (now (id .entry)) r ⌝ }
@@ -139,6 +145,7 @@ pub extern "C" fn cablefinch_guid_halves(id: &[u8]) -> Outcome
     taken(0, halves.0, halves.1, 0)
 }
 
+// Whether all sixteen bytes are 0.
 #[no_mangle]
 pub extern "C" fn cablefinch_guid_is_null(id: &[u8]) -> bool
     ensures { λ r. ⌜ TellsNull (now (id .entry)) r ⌝ }

@@ -23,6 +23,7 @@ fn listed_outcome(answer: Listed) -> Outcome
     }
 }
 
+// Whether the input is one YSON node, and how many items its outer map has.
 #[no_mangle]
 pub extern "C" fn cablefinch_yson_check(input: &[u8]) -> Outcome
     ensures { λ r. ⌜ ChecksYson (now (input .entry)) r ⌝ }
@@ -30,6 +31,7 @@ pub extern "C" fn cablefinch_yson_check(input: &[u8]) -> Outcome
     listed_outcome(yson::check(input))
 }
 
+// Where key and value of each item of the outer map begin and end, into a lent table.
 #[no_mangle]
 pub extern "C" fn cablefinch_yson_items(input: &[u8], table: &mut [u64]) -> Outcome
     ensures { λ r. ⌜ ListsYson (now (input .entry)) (now (table .entry)) r (now (table .exit)) ⌝ }

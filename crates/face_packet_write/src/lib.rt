@@ -29,6 +29,7 @@ fn encoded_outcome(answer: Encoded) -> Outcome
     }
 }
 
+// Writes a packet to the front of `out`.
 #[no_mangle]
 pub extern "C" fn cablefinch_encode(
     mode: u64,

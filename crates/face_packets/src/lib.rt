@@ -6,6 +6,7 @@ ghost use Rattle.face_packets.specs.Statement.{Decodes};
 use packet_mode::mode_of;
 use words::outcome::Outcome;
 
+// Reads the packet at the front of the input into a lent part table.
 #[no_mangle]
 pub extern "C" fn cablefinch_decode_with(
     mode: u64,
@@ -27,6 +28,7 @@ pub extern "C" fn cablefinch_decode_with(
     ))
 }
 
+// The same with the default part ceiling, 65,536.
 #[no_mangle]
 pub extern "C" fn cablefinch_decode(
     mode: u64,
@@ -41,6 +43,7 @@ pub extern "C" fn cablefinch_decode(
     packet_answer::outcome(packet_read::decode(mode, input, max_message_size, parts))
 }
 
+// The checksum of a part.
 #[no_mangle]
 pub extern "C" fn cablefinch_part_checksum(input: &[u8], parts: &[u64], index: usize) -> u64
     ensures { λ r. ⌜ PartChecksumIs (now (input .entry)) (now (parts .entry)) index r ⌝ }

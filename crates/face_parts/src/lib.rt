@@ -39,6 +39,7 @@ fn measured_outcome(answer: Measured) -> Outcome
     }
 }
 
+// How many bytes the packet has.
 #[no_mangle]
 pub extern "C" fn cablefinch_encoded_size(
     mode: u64,
@@ -57,6 +58,7 @@ pub extern "C" fn cablefinch_encoded_size(
     }
 }
 
+// Whether the packet can be written, room aside.
 #[no_mangle]
 pub extern "C" fn cablefinch_validate(mode: u64, kind: u64, area: &[u8], parts: &[u64]) -> Outcome
     ensures { λ r. ⌜ Validates mode kind (now (area .entry)) (now (parts .entry)) r ⌝ }
@@ -85,6 +87,7 @@ pub extern "C" fn cablefinch_part(input: &[u8], parts: &[u64], index: usize) -> 
     taken(0, parts[packet::ENTRY_WORDS * index], length as u64, 0)
 }
 
+// Whether all flags of `other` are set.
 #[no_mangle]
 pub extern "C" fn cablefinch_contains(flags: u16, other: u16) -> bool
     ensures { λ r. ⌜ Contains flags other r ⌝ }

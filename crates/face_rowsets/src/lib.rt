@@ -18,6 +18,7 @@ fn decoded_outcome(answer: Decoded) -> Outcome
     }
 }
 
+// Reads a rowset into the two lent tables.
 #[no_mangle]
 pub extern "C" fn cablefinch_decode_rowset(
     input: &[u8],
@@ -30,6 +31,7 @@ pub extern "C" fn cablefinch_decode_rowset(
     decoded_outcome(wire_read::rowset::decode_rowset(input, rows, values))
 }
 
+// Writes the rowset of these tables to the front of `out`.
 #[no_mangle]
 pub extern "C" fn cablefinch_encode_rowset(
     area: &[u8],
@@ -43,6 +45,7 @@ pub extern "C" fn cablefinch_encode_rowset(
     wire_write::write::outcome(wire_write::write::encode_rowset(area, rows, values, out))
 }
 
+// How many bytes the rowset of these tables has.
 #[no_mangle]
 pub extern "C" fn cablefinch_rowset_size(area: &[u8], rows: &[u64], values: &[u64]) -> Outcome
     ensures { λ r. ⌜ MeasuresRowset (now (area .entry)) (now (rows .entry)) (now (values .entry)) r ⌝ }
@@ -50,6 +53,7 @@ pub extern "C" fn cablefinch_rowset_size(area: &[u8], rows: &[u64], values: &[u6
     wire_check::size::outcome(wire_check::size::encoded_size(area, rows, values))
 }
 
+// Reads the value that begins at this offset.
 #[no_mangle]
 pub extern "C" fn cablefinch_read_value(input: &[u8], at: usize) -> Outcome
     ensures { λ r. ⌜ ReadsValue (now (input .entry)) at r ⌝ }
@@ -57,6 +61,7 @@ pub extern "C" fn cablefinch_read_value(input: &[u8], at: usize) -> Outcome
     wire_value::value::outcome(wire_value::value::read_value(input, at))
 }
 
+// Whether the input is a rowset in its plain form.
 #[no_mangle]
 pub extern "C" fn cablefinch_is_plain(input: &[u8]) -> bool
     ensures { λ r. ⌜ TellsPlain (now (input .entry)) r ⌝ }
@@ -64,6 +69,7 @@ pub extern "C" fn cablefinch_is_plain(input: &[u8]) -> bool
     wire_read::plain::is_plain(input)
 }
 
+// Packs the area behind a value table into `out`, and moves the offsets of the table there.
 #[no_mangle]
 pub extern "C" fn cablefinch_pack(area: &[u8], values: &mut [u64], out: &mut [u8]) -> Outcome
     ensures { λ r. ⌜ PacksArea (now (area .entry)) (now (values .entry)) (now (out .entry)) r (now (values .exit))

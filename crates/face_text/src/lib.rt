@@ -33,6 +33,7 @@ fn walked_outcome(answer: Walked) -> Outcome
     }
 }
 
+// How many bytes the text of these tables has.
 #[no_mangle]
 pub extern "C" fn cablefinch_text_size(area: &[u8], rows: &[u64], values: &[u64]) -> Outcome
     ensures { λ r. ⌜ MeasuresText (now (area .entry)) (now (rows .entry)) (now (values .entry)) r ⌝ }
@@ -40,6 +41,7 @@ pub extern "C" fn cablefinch_text_size(area: &[u8], rows: &[u64], values: &[u64]
     wire_check::size::outcome(text_size::text_size(area, rows, values))
 }
 
+// Writes the text of these tables to the front of `out`.
 #[no_mangle]
 pub extern "C" fn cablefinch_write_text(
     area: &[u8],
@@ -53,6 +55,7 @@ pub extern "C" fn cablefinch_write_text(
     wire_write::write::outcome(text_write::write::write_text(area, rows, values, out))
 }
 
+// Reads a text into the two lent tables and the lent area.
 #[no_mangle]
 pub extern "C" fn cablefinch_read_text(
     text: &[u8],

@@ -3,6 +3,7 @@ ghost use Rattle.face_why.specs.Statement.{WhysPacket, WhysRowset};
 use packet_mode::mode_of;
 use words::outcome::Outcome;
 
+// Why a packet is refused or waits, or that it is fine.
 #[no_mangle]
 pub extern "C" fn cablefinch_why_packet(
     mode: u64,
@@ -17,6 +18,7 @@ pub extern "C" fn cablefinch_why_packet(
     finding::outcome(told)
 }
 
+// Why a rowset is refused or is not plain, or that it is fine.
 #[no_mangle]
 pub extern "C" fn cablefinch_why_rowset(input: &[u8]) -> Outcome
     ensures { λ r. ⌜ WhysRowset (now (input .entry)) r ⌝ }

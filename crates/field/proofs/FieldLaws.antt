@@ -14,7 +14,8 @@ use Rattle.varint.specs.declared.read.Varint.{Varint}
 use Rattle.varint.specs.declared.read.Varint.the-variants.{Whole, Broken}
 use Rattle.varint.proofs.VarintLaws.{size-least, whole-end}
 use Rattle.field.specs.Field.{payloadValue, payloadContent, payloadStop, wholePayload, tagAt, typeAt, stopAt, wholeField}
-use Rattle.field.specs.Statement.{ReadsPayload, ReadsField}
+use Rattle.field.specs.Stages.{ReadsPayload}
+use Rattle.field.specs.Statement.{ReadsField}
 use Rattle.field.specs.declared.field.Payload.{Payload}
 use Rattle.field.specs.declared.field.Payload.the-variants as P
 use Rattle.field.specs.declared.field.Field.the-variants as F

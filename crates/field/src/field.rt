@@ -1,6 +1,7 @@
 // One field: its tag, and its payload by wire type.
 ghost use Prim.Native.Nat.{_≤_};
-ghost use Rattle.field.specs.Statement.{ReadsPayload, ReadsField};
+ghost use Rattle.field.specs.Stages.{ReadsPayload};
+ghost use Rattle.field.specs.Statement.{ReadsField};
 use varint::read::Varint;
 use varint::read::read_varint;
 

@@ -3,7 +3,7 @@
 ghost use Rattle.numerals.specs.Statement.{Writes};
 ghost use Rattle.finding_name.specs.Statement.{WritesName};
 use finding::Field;
-use words::write::write_bytes;
+use word_write::write_bytes;
 
 fn put(out: &mut [u8], bytes: &[u8]) -> usize
     ensures { λ r. ⌜ Writes (now (bytes .entry)) (now (out .entry)) r (now (out .exit)) ⌝ }

@@ -5,8 +5,8 @@ ghost use mathlib.Core.Path.{_≡_};
 ghost use Rattle.words.specs.Statement.{Leaves};
 ghost use Rattle.guid.specs.Guid.{wireBytes};
 ghost use Rattle.guid.specs.Statement.{MadeOfParts, GivesParts, MadeOfHalves, GivesHalves, TellsNull, ReadsBytes};
-use words::read::read_u32;
-use words::write::write_u32;
+use word_read::read_u32;
+use word_write::write_u32;
 
 // The words in wire order.
 pub struct Guid {

@@ -23,9 +23,9 @@ use pack_plain::pack_plain;
 use wire::error::WireError;
 use wire::layout::ENTRY_WORDS;
 use wire_check::table::first_bad;
+use word_write::write_bytes;
 use words::outcome::NoRoom;
 use words::outcome::Room;
-use words::write::write_bytes;
 
 // Above 16 bits of a word, links to the entries of a table of fewer words have room.
 const LINKED_WORDS: usize = 0x1_0000_0000_0000;

@@ -19,9 +19,9 @@ use pack_answer::entry::is_stored;
 use wire::error::WireError;
 use wire::layout::ENTRY_WORDS;
 use wire_check::table::first_bad;
+use word_write::write_bytes;
 use words::outcome::NoRoom;
 use words::outcome::Room;
-use words::write::write_bytes;
 
 // Whether the entry j stores the pair of the entry i.
 fn uses(values: &[u64], j: usize, i: usize) -> bool

@@ -55,11 +55,6 @@ module _ (table : List ℕ) (i : ℕ) where
   abbrev pub tooLargeAt : Bool
   tooLargeAt = isTooLarge offsetAt sizeAt
 
--- the bytes that k parts take, from part i on
-unfoldable pub takenFrom : List ℕ → ℕ → ℕ → ℕ
-takenFrom table i zero = 0
-takenFrom table i (suc k) = taken (offsetAt table i) (sizeAt table i) + takenFrom table (i + 1) k
-
 -- over an area, or a read input
 module _ (area table : List ℕ) (i : ℕ) where
   abbrev pub outsideAt : Bool

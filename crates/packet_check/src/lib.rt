@@ -18,9 +18,9 @@ ghost use Prim.Native.Nat.{_≤_, _*_};
 ghost use Rattle.packet.specs.Layout.{largestPart};
 ghost use Rattle.packet.specs.Paper.{typeNumber};
 ghost use Rattle.packet.specs.Entries as Entries;
-ghost use Rattle.packet.specs.Entries.{room, isTooLarge, takenFrom};
+ghost use Rattle.packet.specs.Entries.{room, isTooLarge};
 ghost use Rattle.packet_check.specs.Checks.{capped, firstTooLarge};
-ghost use Rattle.packet_check.specs.Stages.{outsideOf, Small, sizeBy};
+ghost use Rattle.packet_check.specs.Stages.{outsideOf, Small, sizeBy, takenFrom};
 ghost use Rattle.packet_check.specs.Statement.{Validates, Measures};
 
 // The largest number that a refusal carries in 32 bits.

@@ -12,7 +12,7 @@ use Rattle.words.proofs.WordLaws.{length-bytesOf}
 use Rattle.crc64.specs.Polynomial.{checksum}
 use Rattle.packet.specs.Wire.{sealed}
 use Rattle.packet_write.proofs.PieceLaws.{length-sealed}
-use Rattle.words.specs.Filling.{Filling}
+use Rattle.words.specs.Stages.{Filling}
 pub use Rattle.words.proofs.FillingLaws.{begins, opens, ends, room-left, length-now, place, front, mid-room, leaves, step, word-opens, word-step, closes, word-closes}
 
 -- the checksum of the front, behind it

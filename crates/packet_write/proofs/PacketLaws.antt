@@ -26,7 +26,7 @@ use Rattle.packet_check.specs.Checks.{checks, sizing}
 use Rattle.packet_check.proofs.WireLaws.{length-parts}
 use Rattle.words.proofs.AcceptLaws.{decided}
 use Rattle.packet_check.proofs.CheckLaws.{checks-pass, sized}
-use Rattle.words.specs.Filling.{Filling}
+use Rattle.words.specs.Stages.{Filling}
 use Rattle.packet_write.specs.Writing.{roomLines, writing}
 use Rattle.packet_write.proofs.FillingLaws.{opens}
 use Rattle.packet_write.proofs.PieceLaws.{length-sealed, length-fixed, length-packet}

@@ -10,7 +10,7 @@ use lib.Seq.{length-take-le, take-append-le, drop-append-le, take-append-add, dr
 use borrow.Rule.Slice.PartMut.{midOf, putMid}
 use Rattle.words.specs.Word.{bytesOf}
 use Rattle.words.specs.Buffer.{over, fitted}
-use Rattle.words.specs.Filling.{Filling}
+use Rattle.words.specs.Stages.{Filling}
 use Rattle.words.proofs.WordLaws.{length-bytesOf}
 use Rattle.words.proofs.BufferLaws.{fitted-fits}
 use Rattle.words.proofs.LentLaws.{tail-is-drop}

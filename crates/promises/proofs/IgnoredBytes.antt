@@ -15,7 +15,7 @@ use Rattle.words.specs.Word.{word as wordAt}
 use Rattle.words.proofs.WordLaws.{word-same}
 use Rattle.wire.specs.Layout.{nullMark, boolean, scalar, blob, flag, bitsOf, valuesIn, idAt, typeAt, aggregateAt, lengthAt, scalarAt, countAt, nextValue, nextValues, nextRow, nextRows, rowWords, valueWords}
 use Rattle.wire_read.specs.Reading.{reading}
-use Rattle.wire_read.specs.Alike.{AlikeValue, AlikeValues, AlikeRows, Alike}
+use Rattle.wire_read.proofs.Alike.{AlikeValue, AlikeValues, AlikeRows, Alike}
 use Rattle.wire_read.specs.Statement.{Decodes}
 use Rattle.wire_read.specs.declared.rowset.Decoded.{Decoded}
 use Rattle.wire_read.proofs.AlikeLaws.{nextValue-alike, values-alike, rows-alike, read-alike}

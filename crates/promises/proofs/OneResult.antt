@@ -1,6 +1,8 @@
 -- One result for each statement: for every public function the theorem that two results, with the lent buffers at exit, that meet
 -- its statement are equal. Each stands in its crate, beside the statement; here they are together. Assumes nothing.
-pub use Rattle.words.proofs.Unique.{read-u16-unique, read-u32-unique, read-u64-unique, write-u16-unique, write-u32-unique, write-u64-unique, write-bytes-unique, write-zeros-unique, taken-unique, unfinished-unique, refusal-unique, room-number-unique, no-room-unique}
+pub use Rattle.words.proofs.Unique.{taken-unique, unfinished-unique, refusal-unique, room-number-unique, no-room-unique}
+pub use Rattle.word_read.proofs.Unique.{read-u16-unique, read-u32-unique, read-u64-unique}
+pub use Rattle.word_write.proofs.Unique.{write-u16-unique, write-u32-unique, write-u64-unique, write-bytes-unique, write-zeros-unique}
 pub use Rattle.numerals.proofs.Unique.{hex-size-unique, write-hex-unique, decimal-size-unique, write-decimal-unique, digit-value-unique}
 pub use Rattle.crc64.proofs.Unique.{table-unique, swap-bytes-unique, fold-over-unique, fold-unique}
 pub use Rattle.guid.proofs.Unique.{Guid-from-parts-unique, Guid-parts-unique, Guid-from-halves-unique, Guid-halves-unique, Guid-is-null-unique, Guid-from-bytes-unique, Guid-write-unique}

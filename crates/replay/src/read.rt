@@ -130,7 +130,7 @@ fn hex_into(out: &mut [u8], text: &[u8]) -> usize {
 }
 
 fn zeros_into(out: &mut [u8], count: usize) -> usize {
-    words::write::write_zeros(out, count);
+    word_write::write_zeros(out, count);
     count
 }
 

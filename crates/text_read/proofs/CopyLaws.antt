@@ -10,7 +10,7 @@ use Rattle.wire.specs.Content.{bytes, Cell, Row}
 use Rattle.wire.proofs.LayoutLaws.{sets-append}
 use Rattle.text_form.specs.Form.{tab, lineFeed, percentSign}
 use Rattle.text_form.specs.Walk.{full, percent, second, at, cellOf, capitalValue}
-use Rattle.text_steps.specs.Reading.{from, EndsThere}
+use Rattle.text_steps.specs.Stages.{from, EndsThere}
 use Rattle.text_read.specs.Stages.{HasEscape, ReadsEscape, HasBlob, CopiesUnits}
 use Rattle.text_steps.proofs.AheadLaws.{bytesSoFar, within-end}
 use Rattle.text_steps.proofs.ReadLaws as reads

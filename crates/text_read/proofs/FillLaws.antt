@@ -9,7 +9,7 @@ use Rattle.places.specs.Machine.{read}
 use Rattle.wire.specs.Content.{Cell, Row}
 use Rattle.text_form.specs.Form.{colon, aggregateSign}
 use Rattle.text_form.specs.Walk.{number, letter, digits, at, typeOf, smallValue, behindDigit}
-use Rattle.text_steps.specs.Reading.{from}
+use Rattle.text_steps.specs.Stages.{from}
 use Rattle.text_read.specs.Stages.{HasNumber, ReadsId, HasLetter, ReadsLetter, ReadsHead, Digits, spelling, HasWord, ReadsWord}
 use Rattle.text_read.specs.declared.fill.Number.{Number}
 use Rattle.text_read.specs.declared.fill.Head.{Head}

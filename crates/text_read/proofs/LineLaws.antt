@@ -18,7 +18,7 @@ use Rattle.text_form.specs.Form.{lineFeed, nullSign}
 use Rattle.text_form.specs.Walk.{fresh, number, State, hash, at, Go, step}
 use Rattle.text_form.specs.Limits.{Ask, asked, over}
 use Rattle.text_steps.specs.Tables.{blobOf, blobs, entriesFrom}
-use Rattle.text_steps.specs.Reading.{from, isDigit, behindValue}
+use Rattle.text_steps.specs.Stages.{from, isDigit, behindValue}
 use Rattle.text_steps.proofs.SizeLaws.{blobs-snoc}
 use Rattle.text_steps.proofs.StepLaws as steps
 use Rattle.text_read.specs.Stages.{HasValue, FillsValue, HasLine, HasValues, FillsLine}

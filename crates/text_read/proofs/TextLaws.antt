@@ -11,7 +11,7 @@ use Rattle.wire.proofs.LayoutLaws.{sets-append}
 use Rattle.text_form.specs.Walk.{fresh, at}
 use Rattle.text_steps.specs.Tables.{blobs, allCells, cellsOf, rowWord, entriesFrom, rowTable, valueTable, areaBytes}
 use Rattle.text_walk.specs.Statement.{walking}
-use Rattle.text_steps.specs.Reading.{from}
+use Rattle.text_steps.specs.Stages.{from}
 use Rattle.text_steps.proofs.SizeLaws.{blobs-join, cells-join}
 use Rattle.text_steps.proofs.StepLaws as steps
 use Rattle.text_read.specs.Stages.{HasLine, FillsLine, HasText, FillsText}

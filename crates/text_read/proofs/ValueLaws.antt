@@ -14,7 +14,7 @@ use Rattle.wire.proofs.TypeLaws.{scalar-yes, blob-yes, blob-low}
 use Rattle.text_form.specs.Form.{lineFeed}
 use Rattle.text_form.specs.Walk.{Phase, number, digits, full, at, cellOf}
 use Rattle.text_steps.specs.Tables.{fourthWord, fifthWord, entriesFrom}
-use Rattle.text_steps.specs.Reading.{from, opened, EndsThere}
+use Rattle.text_steps.specs.Stages.{from, opened, EndsThere}
 use Rattle.text_read.specs.Stages.{Has, HasWord, ReadsWord, ReadsHead, HasBlob, CopiesUnits, HasContent, ReadsContent, HasValue, FillsValue}
 use Rattle.text_read.specs.declared.fill.Head.{Head}
 use Rattle.text_read.specs.declared.fill.Copied.{Copied}

@@ -13,7 +13,7 @@ use Rattle.wire.specs.Content.{Content, nothing, word, bytes, Cell, Row}
 use Rattle.text_form.specs.Walk.{Phase, fresh, number, letter, digits, full, percent, State, at, cellOf, smallValue}
 use Rattle.text_steps.specs.Tables.{blobOf, blobs, allCells, cellsOf, rowWord, fourthWord, fifthWord, entriesFrom, rowTable, valueTable, areaBytes}
 use Rattle.text_walk.specs.Statement.{walking}
-use Rattle.text_steps.specs.Reading.{from, isDigit, opened, Signless, EndsThere, behindValue}
+use Rattle.text_steps.specs.Stages.{from, isDigit, opened, Signless, EndsThere, behindValue}
 use Rattle.text_read.specs.declared.fill.Number.{Number}
 use Rattle.text_read.specs.declared.fill.Head.{Head}
 use Rattle.text_read.specs.declared.fill.Copied.{Copied}

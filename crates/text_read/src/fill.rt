@@ -13,7 +13,7 @@ use wire::kind::Kind;
 use wire::kind::kind_of;
 use wire::layout::ENTRY_WORDS;
 use wire::layout::NULL_ROW_MARKER;
-use words::read::read_u64;
+use word_read::read_u64;
 
 // Where a piece ends, and the number that it spells.
 pub(crate) struct Number {

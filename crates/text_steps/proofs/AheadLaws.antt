@@ -18,7 +18,7 @@ use Rattle.text_form.specs.Form.{escaped}
 use Rattle.text_form.specs.Walk.{Phase, fresh, number, letter, digits, full, percent, second, State, hash, at, Go, cellOf, typeOf, smallValue, capitalValue, fitsWord, fitsHigh, onward, step, close}
 use Rattle.text_form.specs.Limits.{asked, over, walkWithin}
 use Rattle.text_steps.specs.Tables.{blobOf, blobs, cellsOf, allCells, areaBytes}
-use Rattle.text_steps.specs.Reading.{from}
+use Rattle.text_steps.specs.Stages.{from}
 use Rattle.text_steps.proofs.SizeLaws.{blobs-snoc, blobs-join, cells-join}
 
 -- a value has begun

@@ -18,7 +18,7 @@ use Rattle.text_form.specs.Form.{tab, lineFeed, nullSign, colon, aggregateSign,
 use Rattle.text_form.specs.Walk.{Phase, fresh, number, letter, digits, full, percent, second, State, hash, at, cellOf, typeOf, smallValue, capitalValue, fitsWord, fitsHigh, behindDigit, step, close}
 use Rattle.text_form.specs.Limits.{asking, beginning, sizeWith, walkWithin}
 use Rattle.text_form.proofs.TextLaws.{both, not-true}
-use Rattle.text_steps.specs.Reading.{isDigit, from, badAt, opened, Closed, behindValue}
+use Rattle.text_steps.specs.Stages.{isDigit, from, badAt, opened, Closed, behindValue}
 use Rattle.text_steps.proofs.StepLaws as steps
 
 module _ (s : List ℕ) (i : ℕ) (q : State) (final : List Row) (reads : from s i q ≡ read final) where

@@ -19,7 +19,7 @@ use Rattle.text_form.specs.Walk.{Phase, fresh, number, letter, digits, full, pe
 use Rattle.text_form.specs.Limits.{asked, asking, further, beginning, ending, lengthening, sizeWith, over, walkWithin}
 use Rattle.text_form.proofs.TextLaws.{both, not-true}
 use Rattle.text_form.proofs.Reading.{Plain, plain}
-use Rattle.text_steps.specs.Reading.{isDigit, from, badAt, opened, Closed, behindValue}
+use Rattle.text_steps.specs.Stages.{isDigit, from, badAt, opened, Closed, behindValue}
 
 -- at a byte of the text, and at its end
 module _ (s : List ℕ) (i : ℕ) where

@@ -1,3 +1,3 @@
 -- What a text's rows fill, and the reading of a text from a place on.
 pub mod Tables
-pub mod Reading
+pub mod Stages

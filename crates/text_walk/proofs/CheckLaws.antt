@@ -22,7 +22,7 @@ use Rattle.text_form.specs.Limits.{sizeWith, walkWithin}
 use Rattle.text_steps.specs.Tables.{blobOf, blobs, cellsOf, allCells, areaBytes}
 use Rattle.text_walk.specs.Statement.{walking, endingAs, counts, counting, Counts}
 use Rattle.text_walk.specs.Paper.{textPaper}
-use Rattle.text_steps.specs.Reading.{isDigit, Reading, from, opened, Closed, Settled, behindValue}
+use Rattle.text_steps.specs.Stages.{isDigit, Reading, from, opened, Closed, Settled, behindValue}
 use Rattle.text_walk.specs.Stages.{StopsBy, IdChecks, LetterChecks, HeadChecks, WordChecks, EscapeChecks, UnitsCheck, EndChecks, Wholly, Checks, ScalarChecks, BlobChecks, ValueChecks, Wholes, ValuesCheck, NullChecks, LineChecks}
 use Rattle.text_walk.specs.declared.error.TextError.{TextError}
 use Rattle.text_walk.specs.declared.error.TextError.the-variants.{BadText, Limit}

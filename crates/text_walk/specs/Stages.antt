@@ -15,7 +15,7 @@ use Rattle.text_form.specs.Form.{escaped}
 use Rattle.text_form.specs.Walk.{fresh, number, letter, digits, full, percent, State, hash, at, cellOf, smallValue, fitsWord, fitsHigh}
 use Rattle.text_form.specs.Limits.{sizeWith}
 use Rattle.text_steps.specs.Tables.{blobOf, blobs, cellsOf}
-use Rattle.text_steps.specs.Reading.{Reading, from, badAt, opened, Signless, EndsThere, Settled, behindValue}
+use Rattle.text_steps.specs.Stages.{Reading, from, badAt, opened, Signless, EndsThere, Settled, behindValue}
 use Rattle.text_walk.specs.declared.error.TextError.{TextError}
 use Rattle.text_walk.specs.declared.error.TextError.the-variants.{BadText, Limit}
 use Rattle.text_walk.specs.declared.check.Step.{Step}

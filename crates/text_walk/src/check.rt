@@ -8,7 +8,7 @@ ghost use Rattle.wire.specs.Layout.{boolean, maxRows, maxSize};
 ghost use Rattle.words.specs.Decide.{_=?_};
 ghost use Rattle.text_form.specs.Form.{tab, lineFeed, nullSign};
 ghost use Rattle.text_form.specs.Walk.{smallValue, capitalValue, fitsWord, fitsHigh};
-ghost use Rattle.text_steps.specs.Reading.{isDigit};
+ghost use Rattle.text_steps.specs.Stages.{isDigit};
 ghost use Rattle.text_walk.specs.Stages.{IdChecks, LetterChecks, HeadChecks, Digits, Fits, WordChecks, High, EscapeChecks};
 ghost use Rattle.text_walk.specs.Stages.{UnitsCheck, EndChecks, ScalarChecks, BlobChecks, ValueChecks, ValuesCheck, NullChecks, LineChecks};
 use super::error::TextError;
@@ -26,7 +26,7 @@ use wire::layout::MAX_VALUE_LENGTH;
 use wire::layout::MAX_VALUES_PER_ROW;
 use wire::layout::WORD_SIZE;
 use wire::layout::padded;
-use words::read::read_u64;
+use word_read::read_u64;
 
 // Eight digits 0, and seven and a 1, as words are read.
 const ZEROS: u64 = 0x3030_3030_3030_3030;

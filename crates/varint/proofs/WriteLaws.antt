@@ -7,7 +7,7 @@ use native.Mathlib.Omega.{arith}
 use borrow.Author.Tests.{lt-ltb, le-ltb}
 use lib.ListN.{length, set, length-append}
 use Rattle.words.specs.Buffer.{fitted}
-use Rattle.words.specs.Filling.{Filling}
+use Rattle.words.specs.Stages.{Filling}
 use Rattle.words.specs.Decide.{_<?_}
 use Rattle.words.proofs.DecideLaws.{pick-case}
 use Rattle.words.proofs.FillingLaws.{room-left, length-now, ends}

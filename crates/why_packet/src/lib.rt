@@ -22,7 +22,7 @@ use packet::type_number;
 use packet_answer::Decoded;
 use packet_answer::outcome;
 use packet_read::decode_with;
-use words::read::read_u32;
+use word_read::read_u32;
 ghost use mathlib.Core.Path.{_≡_};
 ghost use Prim.Native.Nat.{min};
 ghost use Rattle.packet.specs.Layout.{mostParts};

@@ -16,7 +16,7 @@ use wire::kind::kind_of;
 use wire::layout::WORD_SIZE;
 use wire::layout::padded;
 use wire_value::value::Header;
-use words::read::read_u64;
+use word_read::read_u64;
 
 // Where the aggregate byte and the length word stand in a value.
 const AGGREGATE_AT: usize = 3;

@@ -13,7 +13,7 @@ use wire::layout::MAX_ROWS_PER_ROWSET;
 use wire::layout::MAX_VALUES_PER_ROW;
 use wire::layout::NULL_ROW_MARKER;
 use wire::layout::WORD_SIZE;
-use words::read::read_u64;
+use word_read::read_u64;
 
 pub(crate) enum Walked {
     // The next offset, and what broke the plain form first so far.

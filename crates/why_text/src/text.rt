@@ -20,7 +20,7 @@ fn put_bytes(out: &mut [u8], at: usize, bytes: &[u8]) -> usize
     requires { ⌜ at + length (now bytes) ≤ length (now out) ⌝ }
     ensures { λ r. ⌜ Wrote (now (bytes .entry)) at (now (out .entry)) r (now (out .exit)) ⌝ }
 {
-    words::write::write_bytes(&mut out[at..], bytes);
+    word_write::write_bytes(&mut out[at..], bytes);
     at + bytes.len()
 }
 

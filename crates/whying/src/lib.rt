@@ -56,7 +56,7 @@ fn bad_input(out: &mut [u8]) -> Line
         });
     }
     let line: &[u8] = b"bad input\n";
-    words::write::write_bytes(out, line);
+    word_write::write_bytes(out, line);
     Line::Written(line.len())
 }
 

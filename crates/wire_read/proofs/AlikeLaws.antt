@@ -12,7 +12,7 @@ use Rattle.wire_value.specs.ValueOrder.{valueOrder}
 use Rattle.wire_read.specs.Stages.{readValues, countOrder, readRow, readRows, headOrder, readRowset, roomOrder}
 use Rattle.wire_read.specs.Reading.{reading}
 use Rattle.wire_read.proofs.ReadingLaws.{reading-walks}
-use Rattle.wire_read.specs.Alike.{AlikeValue, AlikeValues, AlikeRows, Alike}
+use Rattle.wire_read.proofs.Alike.{AlikeValue, AlikeValues, AlikeRows, Alike}
 
 -- a choice whose first answer matters only where the test holds
 pick-same : {A : Type 0} (test : Bool) (x y z : A) → (test ≡ true → x ≡ y) → pick test x z ≡ pick test y z

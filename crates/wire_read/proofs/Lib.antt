@@ -1,4 +1,5 @@
 -- Laws of reading.
+pub mod Alike
 pub mod Examples
 pub mod ReadingLaws
 pub mod WalkLaws

@@ -2,7 +2,6 @@
 -- public functions.
 pub mod Reading
 pub mod Plain
-pub mod Alike
 pub mod Paper
 pub mod Statement
 pub mod Stages

@@ -17,7 +17,7 @@ use wire::layout::padded;
 use wire::layout::values_in;
 use wire_value::value::Header;
 use wire_value::value::read_header;
-use words::read::read_u64;
+use word_read::read_u64;
 
 // The last two words of a value's entry, and where the next value begins.
 pub(crate) struct Payload {

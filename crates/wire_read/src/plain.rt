@@ -17,7 +17,7 @@ use wire::layout::WORD_SIZE;
 use wire::layout::padded;
 use wire::layout::values_in;
 use wire_value::value::read_header;
-use words::read::read_u64;
+use word_read::read_u64;
 
 pub(crate) enum Plain {
     // All values up to this offset are plain.

@@ -6,9 +6,9 @@ use super::walk::Walked;
 use super::walk::walk_rowset;
 use wire::error::WireError;
 use wire::layout::ENTRY_WORDS;
+use word_read::read_u64;
 use words::outcome::NoRoom;
 use words::outcome::Room;
-use words::read::read_u64;
 
 pub enum Decoded {
     Read { rows: usize, values: usize },

@@ -11,7 +11,7 @@ use wire::need::Needed;
 use wire::need::need_at;
 use wire_value::value::Checked;
 use wire_value::value::check_value;
-use words::read::read_u64;
+use word_read::read_u64;
 
 pub(crate) enum Walked {
     // The next offset, and how many values were passed.

@@ -10,7 +10,7 @@ use wire::need::Needed;
 use wire::need::need_at;
 use wire_value::value::ReadValue;
 use wire_value::value::read_value;
-use words::read::read_u64;
+use word_read::read_u64;
 
 // The input, and where the next read begins.
 pub struct Reader<'a> {

@@ -26,9 +26,9 @@ use wire::layout::WORD_SIZE;
 use wire::layout::padded;
 use wire::need::Needed;
 use wire::need::need_at;
+use word_read::read_u64;
 use words::outcome::ACCEPTED;
 use words::outcome::Outcome;
-use words::read::read_u64;
 
 // Blobs as offset and length.
 pub enum Value {

@@ -11,7 +11,7 @@ use Rattle.words.proofs.WordLaws.{length-bytesOf}
 use Rattle.words.proofs.BufferLaws.{fitted-fits}
 use Rattle.words.proofs.FillingLaws as Laws
 use Rattle.wire_write.specs.Stages.{Puts}
-pub use Rattle.words.specs.Filling.{Filling}
+pub use Rattle.words.specs.Stages.{Filling}
 pub use Rattle.words.proofs.FillingLaws.{begins, room-left, length-now}
 
 -- the first piece, over the whole output

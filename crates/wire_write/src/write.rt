@@ -19,13 +19,13 @@ use wire::layout::WORD_SIZE;
 use wire::layout::values_in;
 use wire_check::size::Measured;
 use wire_check::size::encoded_size;
+use word_write::write_bytes;
+use word_write::write_u64;
+use word_write::write_zeros;
 use words::outcome::NoRoom;
 use words::outcome::Outcome;
 use words::outcome::Room;
 use words::outcome::taken;
-use words::write::write_bytes;
-use words::write::write_u64;
-use words::write::write_zeros;
 
 pub enum Encoded {
     Written(usize),

@@ -12,7 +12,7 @@ use Rattle.words.specs.Buffer.{over, fitted}
 use Rattle.words.proofs.WordLaws.{length-bytesOf}
 use Rattle.words.proofs.BufferLaws.{fitted-fits, length-over}
 use Rattle.words.proofs.LentLaws.{tail-is-drop, lent-over}
-use Rattle.words.specs.Filling.{Filling}
+use Rattle.words.specs.Stages.{Filling}
 
 -- nothing is written yet
 pub begins : (whole before : List ℕ) → length whole ≤ length before → Filling whole whole before before 0

@@ -3,11 +3,8 @@
 use mathlib.Core.Path.{_≡_, sym, _∙_, ap}
 use mathlib.Core.List.{List, [], _∷_}
 use Prim.Native.Nat.{ℕ}
-use lib.ListN.{replicate}
-use Rattle.words.specs.Word.{word, bytesOf}
-use Rattle.words.specs.Buffer.{fitted}
 use Rattle.words.specs.Answer.{Answer, accepted, more, refused, refuse, NotTaken, afterwards}
-use Rattle.words.specs.Statement.{ReadsWord, Leaves, Means, Holds, OneResult}
+use Rattle.words.specs.Statement.{Means, Holds, OneResult}
 use Rattle.words.specs.Paper.{Tells, NumbersRoom, outcome, roomNumber, noRoomValues}
 use Rattle.words.specs.declared.outcome.Room.{Room}
 use Rattle.words.specs.declared.outcome.NoRoom.{NoRoom}
@@ -28,30 +25,6 @@ holds-one a ws before = equal-to-one (afterwards a ws before)
 -- what is not taken leaves a lent buffer as it was
 pub holds-kept : (a : Answer) (ws before after : List ℕ) → NotTaken a → Holds a ws before after → after ≡ before
 holds-kept a ws before after kept holds = holds ∙ not-taken-keeps a ws before kept
-
-pub read-u16-unique : (s : List ℕ) (at : ℕ) → OneResult (ReadsWord 2 s at)
-read-u16-unique s at = equal-to-one (word 2 s at)
-
-pub read-u32-unique : (s : List ℕ) (at : ℕ) → OneResult (ReadsWord 4 s at)
-read-u32-unique s at = equal-to-one (word 4 s at)
-
-pub read-u64-unique : (s : List ℕ) (at : ℕ) → OneResult (ReadsWord 8 s at)
-read-u64-unique s at = equal-to-one (word 8 s at)
-
-pub write-u16-unique : (x : ℕ) (before : List ℕ) → OneResult (Leaves (bytesOf 2 x) before)
-write-u16-unique x before = equal-to-one (fitted (bytesOf 2 x) before)
-
-pub write-u32-unique : (x : ℕ) (before : List ℕ) → OneResult (Leaves (bytesOf 4 x) before)
-write-u32-unique x before = equal-to-one (fitted (bytesOf 4 x) before)
-
-pub write-u64-unique : (x : ℕ) (before : List ℕ) → OneResult (Leaves (bytesOf 8 x) before)
-write-u64-unique x before = equal-to-one (fitted (bytesOf 8 x) before)
-
-pub write-bytes-unique : (bytes before : List ℕ) → OneResult (Leaves bytes before)
-write-bytes-unique bytes before = equal-to-one (fitted bytes before)
-
-pub write-zeros-unique : (count : ℕ) (before : List ℕ) → OneResult (Leaves (replicate count 0) before)
-write-zeros-unique count before = equal-to-one (fitted (replicate count 0) before)
 
 pub taken-unique : (count v0 v1 v2 : ℕ) → OneResult (Tells (accepted count (v0 ∷ v1 ∷ v2 ∷ [])))
 taken-unique count v0 v1 v2 = equal-to-one (outcome (accepted count (v0 ∷ v1 ∷ v2 ∷ [])))

@@ -4,7 +4,7 @@ pub mod Buffer
 pub mod Decide
 pub mod Answer
 pub mod Statement
-pub mod Filling
+pub mod Stages
 pub mod Text
 pub mod Note
 pub mod Paper

@@ -9,7 +9,7 @@ use lib.ListN.{length, drop, length-set}
 use borrow.Author.Needs.{needs}
 use borrow.Rule.Slice.PartMut.{putMid}
 use Rattle.words.specs.Word.{Bytes}
-use Rattle.words.specs.Filling.{Filling}
+use Rattle.words.specs.Stages.{Filling}
 use Rattle.words.proofs.WordLaws.{word-lent}
 use Rattle.crc64_lanes.specs.Stages.{waits}
 use Rattle.crc64_lanes.proofs.Braid.{queue, begun, one-lane, all-four}

@@ -8,7 +8,7 @@ use native.Mathlib.Omega.{arith}
 use lib.ListN.{length, drop}
 use borrow.Author.Needs.{needs}
 use Rattle.words.specs.Decide.{pick}
-use Rattle.words.specs.Filling.{Filling}
+use Rattle.words.specs.Stages.{Filling}
 use Rattle.words.proofs.FillingLaws.{begins}
 use Rattle.crc64.specs.Polynomial.{fold}
 use Rattle.crc64.specs.Table.{swapped}

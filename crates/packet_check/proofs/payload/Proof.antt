@@ -8,7 +8,8 @@ use native.Mathlib.Omega.{arith}
 use borrow.Author.Needs.{needs}
 use Rattle.packet.specs.Layout.{largestPart}
 use Rattle.packet.specs.Entries.{room}
-use Rattle.packet.specs.Entries.{takenFrom, offsetAt, sizeAt}
+use Rattle.packet_check.specs.Stages.{takenFrom}
+use Rattle.packet.specs.Entries.{offsetAt, sizeAt}
 use Rattle.packet_check.proofs.WireLaws.{taken-most, taken-next, taken-end, small-at}
 use Rattle.packet_check.proofs.payload.Statement.{statement}
 use Rattle.packet_check.proofs.payload.Tie as tie

@@ -3,7 +3,7 @@ use mathlib.Core.Path.{sym, _∙_}
 use native.Mathlib.Omega.{arith}
 use Rattle.packet.specs.Paper.{typeNumber}
 use Rattle.packet.specs.Wire.{body, partsOf}
-use Rattle.words.specs.Filling.{Filling}
+use Rattle.words.specs.Stages.{Filling}
 use Rattle.packet_write.specs.Statement.{bytesFor}
 use Rattle.packet_write.proofs.FillingLaws.{place, closes, mid-room}
 use Rattle.packet_write.proofs.PacketLaws.{header-room, header-all, header-first}

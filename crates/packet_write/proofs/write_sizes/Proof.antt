@@ -9,7 +9,7 @@ use Rattle.packet.specs.Entries.{room}
 use Rattle.packet.specs.Entries.{offsetAt, sizeAt}
 use Rattle.packet_check.proofs.WireLaws.{small-at}
 use Rattle.packet_write.specs.Stages.{entrySize, entrySizes}
-use Rattle.words.specs.Filling.{Filling}
+use Rattle.words.specs.Stages.{Filling}
 use Rattle.packet_write.proofs.FillingLaws.{begins, place, length-now, word-step, ends}
 use Rattle.packet_write.proofs.PieceLaws.{entries-next, entries-end, length-entries}
 use Rattle.packet_write.proofs.write_sizes.Statement.{statement}

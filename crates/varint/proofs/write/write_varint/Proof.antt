@@ -5,7 +5,7 @@ use Prim.Native.Nat.{_-_}
 use borrow.Author.Needs.{needs}
 use native.Mathlib.Omega.{arith}
 use lib.ListN.{length}
-use Rattle.words.specs.Filling.{Filling}
+use Rattle.words.specs.Stages.{Filling}
 use Rattle.words.proofs.BufferLaws.{fitted-short}
 use Rattle.words.proofs.FillingLaws.{begins, length-now}
 use Rattle.varint.specs.Varint.{groups, varint}
