@@ -1,5 +1,5 @@
--- What the exported function that writes packets promises, by name: its outcome is that of the answer that the library's
--- definitions give, and the output holds afterwards what they say. Assumes nothing.
+-- What the exported function that writes packets promises, by name: its outcome is that of the answer that the
+-- library's definitions give, and the output holds afterwards what they say. Assumes nothing.
 use Prim.Native.Nat.{ℕ}
 use mathlib.Core.List.{List}
 use lib.ListN.{length}

@@ -1,5 +1,5 @@
--- What each exported function that reads packets promises, by name: its outcome is that of the answer that the library's
--- definitions give, and a lent buffer holds afterwards what they say. Assumes nothing.
+-- What each exported function that reads packets promises, by name: its outcome is that of the answer that the
+-- library's definitions give, and a lent buffer holds afterwards what they say. Assumes nothing.
 use Prim.Native.Nat.{ℕ}
 use mathlib.Core.List.{List}
 use Rattle.words.specs.Paper.{Tells}
