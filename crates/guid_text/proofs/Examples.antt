@@ -10,7 +10,7 @@ use Rattle.guid_text.specs.declared.Reason.the-variants.{Empty, TooLong,
 use Rattle.guid_text.specs.declared.Parsed.{Parsed}
 use Rattle.guid_text.specs.declared.Parsed.the-variants.{Read, Bad}
 use Rattle.guid.specs.Guid.{guidOf}
-use Rattle.guid_text.specs.Fields.{fields}
+use Rattle.guid_text.specs.Split.{fields}
 use Rattle.guid_text.specs.Text.{textOf, printing}
 use Rattle.guid_text.specs.Normal.{lower, shorn, normal}
 use Rattle.guid_text.specs.Statement.{Parses}

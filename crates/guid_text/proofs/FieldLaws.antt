@@ -9,7 +9,8 @@ use lib.ListN.{length, getD}
 use Rattle.words.specs.Text.{digitOf}
 use Rattle.guid.specs.declared.Guid.{Guid}
 use Rattle.guid_text.specs.Digits.{Digits}
-use Rattle.guid_text.specs.Fields.{dash, between, fields}
+use Rattle.guid_text.specs.Fields.{dash, between}
+use Rattle.guid_text.specs.Split.{fields}
 use Rattle.guid_text.specs.Form.{IsText}
 use Rattle.guid_text.proofs.ValueLaws.{digit-byte, no-dash}
 

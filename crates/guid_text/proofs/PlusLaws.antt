@@ -18,7 +18,8 @@ use Rattle.guid.specs.declared.Guid.{Guid}
 use Rattle.guid_text.specs.declared.Reason.{Reason}
 use Rattle.guid_text.specs.declared.Reason.the-variants.{TooLong, NotHex}
 use Rattle.guid_text.specs.Digits.{Digits, value}
-use Rattle.guid_text.specs.Fields.{dash, between, fields}
+use Rattle.guid_text.specs.Fields.{dash, between}
+use Rattle.guid_text.specs.Split.{fields}
 use Rattle.guid_text.specs.Form.{IsField, FourFields, IsText}
 use Rattle.guid_text.specs.WithPlus.{plus, IsFieldBefore, bare, led, IsTextBefore, Plusless}
 use Rattle.guid_text.proofs.ValueLaws.{digit-byte, no-plus}

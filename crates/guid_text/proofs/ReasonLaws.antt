@@ -23,7 +23,8 @@ use Rattle.guid_text.specs.declared.Reason.{Reason}
 use Rattle.guid_text.specs.declared.Reason.the-variants.{Empty, TooLong, NotHex, FieldCount}
 use Rattle.guid_text.specs.declared.Parsed.{Parsed}
 use Rattle.guid_text.specs.declared.Parsed.the-variants.{Read, Bad}
-use Rattle.guid_text.specs.Fields.{dash, fields, lastOf}
+use Rattle.guid_text.specs.Fields.{dash}
+use Rattle.guid_text.specs.Split.{fields, lastOf}
 use Rattle.guid_text.specs.Form.{IsText, Accepted}
 use Rattle.guid_text.specs.Reason.{fieldNumber, bytesBefore, reasons}
 use Rattle.guid_text.specs.Statement.{Parses}

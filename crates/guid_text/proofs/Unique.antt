@@ -18,7 +18,8 @@ use Rattle.guid_text.specs.declared.Parsed.the-variants.{Read, Bad}
 use Rattle.guid_text.specs.declared.Reason.{Reason}
 use Rattle.guid_text.specs.declared.Reason.the-variants.{Empty, TooLong, NotHex, FieldCount}
 use Rattle.guid_text.specs.Text.{textOf, printing}
-use Rattle.guid_text.specs.Paper.{printedPaper, parsedPaper, reasonNumber}
+use Rattle.guid_text.specs.Paper.{printedPaper, parsedPaper}
+use Rattle.guid_text.specs.Reason.{reasonNumber}
 use Rattle.guid_text.specs.Statement.{SizesText, Prints, Parses}
 use Rattle.guid_text.proofs.ReasonLaws.{same-parsed}
 

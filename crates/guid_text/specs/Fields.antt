@@ -1,7 +1,6 @@
--- A text as fields between dashes: taken apart, and put together. Assumes nothing.
+-- A text as fields with dashes between them. Assumes nothing.
 use Prim.Native.Nat.{ℕ}
 use mathlib.Core.List.{List, [], _∷_, _++_}
-use Rattle.words.specs.Decide.{pick, _=?_}
 
 -- the byte that stands between fields
 abbrev pub dash : ℕ
@@ -12,19 +11,3 @@ abbrev pub between : List (List ℕ) → List ℕ
 between [] = []
 between (f ∷ []) = f
 between (f ∷ g ∷ fs) = f ++ dash ∷ between (g ∷ fs)
-
--- b in front of the first field
-abbrev pub into : ℕ → List (List ℕ) → List (List ℕ)
-into b [] = (b ∷ []) ∷ []
-into b (f ∷ fs) = (b ∷ f) ∷ fs
-
--- the fields between the dashes of any text; the text of no bytes is one field of none
-unfoldable pub fields : List ℕ → List (List ℕ)
-fields [] = [] ∷ []
-fields (b ∷ s) = pick (b =? dash) ([] ∷ fields s) (into b (fields s))
-
--- the last of some fields
-abbrev pub lastOf : List (List ℕ) → List ℕ
-lastOf [] = []
-lastOf (f ∷ []) = f
-lastOf (f ∷ g ∷ fs) = lastOf (g ∷ fs)

@@ -1,5 +1,6 @@
 -- A GUID's text, where a text goes wrong and why, and what the functions promise.
 pub mod Fields
+pub mod Split
 pub mod Text
 pub mod Digits
 pub mod Form

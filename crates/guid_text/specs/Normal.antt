@@ -3,7 +3,8 @@
 use Prim.Native.Nat.{ℕ, _+_}
 use mathlib.Core.List.{List, [], _∷_, map}
 use Rattle.words.specs.Decide.{pick, decide, _⇒_, _<?_, _=?_}
-use Rattle.guid_text.specs.Fields.{between, fields}
+use Rattle.guid_text.specs.Fields.{between}
+use Rattle.guid_text.specs.Split.{fields}
 
 -- a letter A to F in lower case
 unfoldable pub lower : ℕ → ℕ

@@ -10,7 +10,15 @@ use Rattle.words.specs.Decide.{Line, _⇒_, _<?_, _=?_}
 use Rattle.words.specs.Text.{digitOf}
 use Rattle.guid_text.specs.declared.Reason.{Reason}
 use Rattle.guid_text.specs.declared.Reason.the-variants.{Empty, TooLong, NotHex, FieldCount}
-use Rattle.guid_text.specs.Fields.{dash, fields, lastOf}
+use Rattle.guid_text.specs.Fields.{dash}
+use Rattle.guid_text.specs.Split.{fields, lastOf}
+
+-- the reasons in the order of document 02's sentence
+abbrev pub reasonNumber : Reason → ℕ
+reasonNumber Empty = 1
+reasonNumber TooLong = 2
+reasonNumber NotHex = 3
+reasonNumber FieldCount = 4
 
 -- the place p of the text s
 module _ (s : List ℕ) (p : ℕ) where

@@ -16,7 +16,8 @@ use Rattle.words.specs.Word.{word as wordAt, bytesOf}
 use Rattle.words.proofs.WordLaws.{word-drop, word-behind, word-bytesOf, length-bytesOf}
 use Rattle.wire.specs.Layout.{maxLength, boolean, scalar, blob, known, padding, payload, flag, bitsOf, idAt, typeAt, aggregateAt, lengthAt, scalarAt, nextValue}
 use Rattle.wire_value.specs.ValueOrder.{valueOrder}
-use Rattle.wire.specs.Content.{Content, nothing, word, bytes, Cell, contentAt, cellAt, lengthWord, contentBytes, cellBytes, FitsType, GoodCell}
+use Rattle.wire.specs.Content.{Content, nothing, word, bytes, Cell, lengthWord, contentBytes, cellBytes}
+use Rattle.promises.specs.RowContent.{contentAt, cellAt, FitsType, GoodCell}
 
 -- a word that stands behind j bytes
 pub word-stands : (k j n : ℕ) (s a b : List ℕ) (at : ℕ) → drop at s ≡ a ++ (bytesOf k n ++ b) → length a ≡ j → n < 256 ^ k → wordAt k s (at + j) ≡ n

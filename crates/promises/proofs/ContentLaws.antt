@@ -8,7 +8,8 @@ use lib.ListN.{length, getD}
 use borrow.Author.Tests.{eqb-true}
 use Rattle.wire.specs.Layout.{nullMark, entryWords, valuesIn, countAt, nextValue, nextRow, nextRows, valueCount, rowWords}
 use Rattle.wire_check.specs.Writing.{total}
-use Rattle.wire.specs.Content.{Cell, Row, null, values, cellAt, cellsAt, rowAt, rowsAt, rowIn, cellsIn, rowsFrom}
+use Rattle.wire.specs.Content.{Cell, Row, null, values, rowIn, cellsIn, rowsFrom}
+use Rattle.promises.specs.RowContent.{cellAt, cellsAt, rowAt, rowsAt}
 use Rattle.promises.proofs.CellRound.{by-test}
 
 -- the word of a row: its count, or the null mark

@@ -15,7 +15,8 @@ use Rattle.words.proofs.WordLaws.{length-bytesOf}
 use Rattle.wire.specs.Layout.{nullMark, maxRows, maxValues, valuesIn, countAt, nextValue, nextValues, nextRow, nextRows}
 use Rattle.wire_value.specs.ValueOrder.{valueOrder}
 use Rattle.wire_read.specs.Stages.{readValues, countOrder, readRow, readRows, headOrder, readRowset}
-use Rattle.wire.specs.Content.{Cell, Row, null, values, cellAt, cellsAt, rowAt, rowsAt, rowsOf, cellBytes, cellsBytes, rowBytes, rowsBytes, bytesOfRows, GoodCells, GoodRow, GoodRows, Writable}
+use Rattle.wire.specs.Content.{Cell, Row, null, values, cellBytes, cellsBytes, rowBytes, rowsBytes, bytesOfRows}
+use Rattle.promises.specs.RowContent.{cellAt, cellsAt, rowAt, rowsAt, rowsOf, GoodCells, GoodRow, GoodRows, Writable}
 use Rattle.promises.proofs.CellRound.{word-stands, drop-behind, tail-stands, value-passes, cell-read}
 
 module _ (s : List ℕ) where

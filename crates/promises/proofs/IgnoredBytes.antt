@@ -20,7 +20,8 @@ use Rattle.wire_read.specs.Statement.{Decodes}
 use Rattle.wire_read.specs.declared.rowset.Decoded.{Decoded}
 use Rattle.wire_read.proofs.AlikeLaws.{nextValue-alike, values-alike, rows-alike, read-alike}
 use Rattle.wire_read.proofs.Unique.{decoded-injective}
-use Rattle.wire.specs.Content.{Content, nothing, word, bytes, Cell, Row, null, values, contentAt, cellAt, cellsAt, rowAt, rowsAt, rowsOf}
+use Rattle.wire.specs.Content.{Content, nothing, word, bytes, Cell, Row, null, values}
+use Rattle.promises.specs.RowContent.{contentAt, cellAt, cellsAt, rowAt, rowsAt, rowsOf}
 use Rattle.promises.specs.Rowsets.{Agree, SameValue, DifferOnlyThere, IgnoredBytes}
 use Rattle.promises.proofs.CellRound.{by-test}
 

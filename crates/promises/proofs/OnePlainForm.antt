@@ -15,7 +15,8 @@ use Rattle.words.specs.Buffer.{stretch}
 use Rattle.words.specs.Word.{word as wordAt, bytesOf, Bytes}
 use Rattle.words.proofs.WordLaws.{word-lt, bytesOf-word}
 use Rattle.wire.specs.Layout.{nullMark, maxSize, maxValues, entryWords, boolean, scalar, blob, padding, payload, flag, bitsOf, valuesIn, idAt, typeAt, aggregateAt, lengthAt, scalarAt, countAt, nextValue, nextValues, nextRow, nextRows, valueCount, entry, fourth, fifth, entries, rowWords, valueWords}
-use Rattle.wire.specs.Content.{bytes, Cell, contentAt, cellAt, cellsAt, rowAt, rowsAt, rowsOf, rowsIn, lengthWord, contentBytes, cellBytes, cellsBytes, rowBytes, rowsBytes, bytesOfRows, GoodCell, GoodCells, GoodRow, GoodRows, Writable}
+use Rattle.wire.specs.Content.{bytes, Cell, rowsIn, lengthWord, contentBytes, cellBytes, cellsBytes, rowBytes, rowsBytes, bytesOfRows}
+use Rattle.promises.specs.RowContent.{contentAt, cellAt, cellsAt, rowAt, rowsAt, rowsOf, GoodCell, GoodCells, GoodRow, GoodRows, Writable}
 use Rattle.wire.proofs.LayoutLaws.{length-entries, length-rowWords, length-valueWords}
 use Rattle.wire_read.specs.Reading.{endOf, valuesOf}
 use Rattle.wire_read.specs.Plain.{plain}

@@ -14,7 +14,8 @@ use Rattle.words.specs.Word.{word as wordAt, bytesOf}
 use Rattle.wire.specs.Layout.{nullMark, maxSize, maxValues, boolean, padding, valuesIn, typeAt, aggregateAt, lengthAt, scalarAt, countAt, nextValue, nextRow}
 use Rattle.wire_read.specs.Plain.{zeros, plainValue, plainValues, plainRows, plain}
 use Rattle.wire_read.proofs.ReadingLaws.{accepts-walks}
-use Rattle.wire.specs.Content.{Content, nothing, word, bytes, Cell, Row, null, values, lengthWord, contentBytes, cellBytes, cellsBytes, rowBytes, rowsBytes, bytesOfRows, FitsType, GoodCells, GoodRow, GoodRows, Writable}
+use Rattle.wire.specs.Content.{Content, nothing, word, bytes, Cell, Row, null, values, lengthWord, contentBytes, cellBytes, cellsBytes, rowBytes, rowsBytes, bytesOfRows}
+use Rattle.promises.specs.RowContent.{FitsType, GoodCells, GoodRow, GoodRows, Writable}
 use Rattle.promises.proofs.CellRound.{by-test, word-stands, drop-behind, scalar-no-blob, reads-type, reads-aggregate, reads-length, behind-header, tail-stands}
 use Rattle.promises.proofs.ContentRound.{count-is, behind-count, row-round, reads-count, reads-passes, behind}
 

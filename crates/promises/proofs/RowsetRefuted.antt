@@ -16,7 +16,8 @@ use Rattle.wire_read.specs.declared.rowset.Decoded.the-variants.{Read, Refused 
 use Rattle.wire_check.specs.Writing.{total, firstBad, rowsSize, rowsetSize, rowsLimits, checkLines, writing}
 use Rattle.wire_write.specs.declared.write.Encoded.the-variants.{Written, Refused as NotWritten}
 use Rattle.wire_read.specs.Plain.{zeros, plainValue, plainValues, plainRows, accepts, plain}
-use Rattle.wire.specs.Content.{Cell, bytes, Row, null, values, cellsAt, rowsAt, cellBytes, cellsBytes, rowsBytes, bytesOfRows, GoodCell, GoodCells, Writable}
+use Rattle.wire.specs.Content.{Cell, bytes, Row, null, values, cellBytes, cellsBytes, rowsBytes, bytesOfRows}
+use Rattle.promises.specs.RowContent.{cellsAt, rowsAt, GoodCell, GoodCells, Writable}
 use Rattle.promises.specs.RowsetReader.{EachValue}
 use Rattle.promises.specs.Rowsets.{PlainAt}
 use Rattle.promises.specs.RowsetRefuted.{twoRows, twoEmptyRows, booleanOfTwo, paddingOfEight, aggregateOfTwo, nullOfOne, aggregateNull, NotUnderTheNeighbour, NullIsNotEmpty, LongIsNotPlain, NotWithoutTheBound, NotWithoutTheRoom, AcceptedIsNotPlain}

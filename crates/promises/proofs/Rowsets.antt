@@ -17,7 +17,8 @@ use Rattle.wire_read.proofs.DecodeLaws.{decodes-told}
 use Rattle.wire_read.proofs.RowLaws.{row-word, row-entries}
 use Rattle.wire_write.specs.declared.write.Encoded.the-variants.{Written}
 use Rattle.wire_check.specs.Writing.{total}
-use Rattle.wire.specs.Content.{Row, rowsOf, rowsIn, bytesOfRows, Writable}
+use Rattle.wire.specs.Content.{Row, rowsIn, bytesOfRows}
+use Rattle.promises.specs.RowContent.{rowsOf, Writable}
 use Rattle.promises.specs.RowsetReader.{Acceptable, Roomy}
 use Rattle.promises.specs.RowsetWriter.{Encodable}
 use Rattle.promises.specs.Rowsets.{RowsInOrder, RowsByPlace, RowsetRoundTrip, RowsetEncodeThenDecode, WrittenIsPlain}

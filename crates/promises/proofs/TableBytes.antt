@@ -14,7 +14,8 @@ use Rattle.words.specs.Word.{bytesOf}
 use Rattle.wire.specs.Layout.{nullMark, maxRows, maxValues, entryWords, boolean, scalar, blob, known, valuesIn, payloadBytes, valueBytes, entryBytes, valuesBytes, rowBytes, rowsBytes, rowsetBytes}
 use Rattle.wire_check.specs.Writing.{typeIn, bitsIn, lengthIn, total}
 use Rattle.wire.specs.Content as content
-use Rattle.wire.specs.Content.{Content, nothing, word, bytes, Cell, Row, null, values, cellIn, cellsIn, rowsFrom, rowsIn, contentIn, lengthWord, contentBytes, cellBytes, cellsBytes, bytesOfRows, FitsType, GoodCells, GoodRows, Writable}
+use Rattle.wire.specs.Content.{Content, nothing, word, bytes, Cell, Row, null, values, cellIn, cellsIn, rowsFrom, rowsIn, contentIn, lengthWord, contentBytes, cellBytes, cellsBytes, bytesOfRows}
+use Rattle.promises.specs.RowContent.{FitsType, GoodCells, GoodRow, GoodRows, Writable}
 use Rattle.promises.specs.RowsetWriter.{Allowed}
 use Rattle.promises.proofs.CellRound.{by-test, scalar-no-blob}
 
@@ -104,7 +105,7 @@ module _ (area table : List ℕ) where
         let first : Allowed area table k = allowed-first n k each in
         (record { id-fits = first .id-fits; aggregate-bit = first .aggregate-bit; fits-type = content-fits k first (words (k + 3)) }, cells-good n (k + entryWords) (allowed-next n k each))
 
-    row-good : (count k : ℕ) → (count ≡ nullMark) ⊎ (count ≤ maxValues) → AllowedFrom (valuesIn count) k → content.GoodRow (content.rowIn area table count k)
+    row-good : (count k : ℕ) → (count ≡ nullMark) ⊎ (count ≤ maxValues) → AllowedFrom (valuesIn count) k → GoodRow (content.rowIn area table count k)
     row-good count k few each =
         by-test (eqb count nullMark) (λ t. rw t tt)
         (λ t. rw t (rw (length-cells count k) (⊎-elim (λ (e : count ≡ nullMark). let never : true ≡ false = sym (eq-eqb count nullMark e) ∙ t in absurd (let z : _≡_ {A = ℕ} 0 1 = cc in omega arith)) (λ (h : count ≤ maxValues). h) few), cells-good count k (rw t at each)))

@@ -14,7 +14,8 @@ use Rattle.words.specs.Decide.{pick}
 use Rattle.words.specs.Word.{bytesOf}
 use Rattle.wire.specs.Layout.{nullMark, maxLength, entryWords, boolean, scalar, blob, known, valuesIn, typeAt, lengthAt, scalarAt, bitsOf, countAt, nextValue, nextRow, entry, fourth, fifth, entries, rowWords, valueWords}
 use Rattle.wire.proofs.LayoutLaws.{length-entries}
-use Rattle.wire.specs.Content.{Content, nothing, word, bytes, Cell, Row, null, values, contentAt, cellAt, cellsAt, rowAt, rowsAt, rowsOf, contentIn, cellIn, cellsIn, rowsFrom, rowsIn}
+use Rattle.wire.specs.Content.{Content, nothing, word, bytes, Cell, Row, null, values, contentIn, cellIn, cellsIn, rowsFrom, rowsIn}
+use Rattle.promises.specs.RowContent.{contentAt, cellAt, cellsAt, rowAt, rowsAt, rowsOf}
 use Rattle.promises.proofs.CellRound.{by-test, drop-behind}
 
 -- The tables that reading fills hold the content of the input

@@ -16,7 +16,8 @@ use Rattle.guid_text.specs.declared.Parsed.the-variants.{Read, Bad}
 use Rattle.guid_text.specs.declared.Reason.{Reason}
 use Rattle.guid_text.specs.declared.Reason.the-variants.{Empty, TooLong, NotHex, FieldCount}
 use Rattle.guid.specs.Guid.{Fitting}
-use Rattle.guid_text.specs.Fields.{dash, fields}
+use Rattle.guid_text.specs.Fields.{dash}
+use Rattle.guid_text.specs.Split.{fields}
 use Rattle.guid_text.specs.Text.{textOf}
 use Rattle.guid_text.specs.Form.{IsText, Accepted}
 use Rattle.guid_text.specs.Reason.{fieldNumber, bytesBefore}

@@ -7,6 +7,7 @@ pub mod Parts
 pub mod Guarded
 pub mod RoundTrip
 pub mod Live
+pub mod RowContent
 pub mod RowsetWriter
 pub mod RowsetReader
 pub mod Rowsets

@@ -11,7 +11,8 @@ use Rattle.wire_read.specs.Statement.{Decodes, TellsPlain}
 use Rattle.wire_read.specs.declared.rowset.Decoded.{Decoded}
 use Rattle.wire_write.specs.declared.write.Encoded.{Encoded}
 use Rattle.wire_write.specs.Statement.{Encodes}
-use Rattle.wire.specs.Content.{null, rowAt, rowsOf}
+use Rattle.wire.specs.Content.{null}
+use Rattle.promises.specs.RowContent.{rowAt, rowsOf}
 use Rattle.promises.specs.RowsetReader.{rowPlace, Acceptable, EachValue, Roomy}
 use Rattle.promises.specs.Rowsets.{PlainAt, rowsRead, valuesRead, WrittenBack}
 

@@ -16,7 +16,8 @@ use Rattle.wire_read.specs.declared.rowset.Decoded.the-variants.{Read, Refused 
 use Rattle.wire_write.specs.declared.write.Encoded.{Encoded}
 use Rattle.wire_write.specs.declared.write.Encoded.the-variants.{Written, Refused as NotWritten}
 use Rattle.wire_write.specs.Statement.{Encodes}
-use Rattle.wire.specs.Content.{Row, null, rowAt, rowsOf, rowsIn, bytesOfRows, Writable}
+use Rattle.wire.specs.Content.{Row, null, rowsIn, bytesOfRows}
+use Rattle.promises.specs.RowContent.{rowAt, rowsOf, Writable}
 use Rattle.promises.specs.RowsetReader.{rowPlace, EachRow, EachValue, Acceptable, Roomy}
 
 -- What `decode_rowset` reads: as many rows and values as it tells; row i of the tables is what stands at row i of the

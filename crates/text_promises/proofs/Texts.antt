@@ -17,7 +17,6 @@ use Rattle.words.proofs.AnswerLaws.{not-taken-keeps}
 use Rattle.words.proofs.DecideLaws.{decide-append, pick-case}
 use Rattle.words.proofs.Unique.{means-one}
 use lib.Dec.{ltb, eqb}
-use Rattle.wire_check.specs.Writing as Writing
 use Rattle.places.specs.Place.{Place}
 use Rattle.places.specs.Machine.{Ending, read, stopped}
 use Rattle.wire.specs.Paper.{paper}
@@ -285,7 +284,7 @@ module _ (area rows values : List ℕ) where
   text-behind room = decide (roomLine Output (length (tablesText area rows values)) room ∷ []) (accepted (length (tablesText area rows values)) [])
 
   rowset-behind : ℕ → Answer
-  rowset-behind room = decide (Writing.roomLine (rowsetSize rows values) room ∷ []) (accepted (rowsetSize rows values) [])
+  rowset-behind room = decide (roomLine Output (rowsetSize rows values) room ∷ []) (accepted (rowsetSize rows values) [])
 
   text-splits : (room : ℕ) → writingText area rows values room ≡ decide (checkLines area rows values) (text-behind room)
   unfolding writingText text-behind

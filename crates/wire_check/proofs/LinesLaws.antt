@@ -6,7 +6,9 @@ use Rattle.words.specs.Answer.{Answer, accepted}
 use Rattle.words.specs.Decide.{Line, decide}
 use Rattle.words.proofs.DecideLaws.{decide-append}
 use Rattle.wire.specs.Layout.{entryWords, valuesIn}
-use Rattle.wire_check.specs.Writing.{typeIn, lengthIn, valueSize, rowSize, rowsetSize, valueOrder, valuesLimits, countOrder, rowsLimits, badTableLines, tooManyRows, limitLines, checkLines, measuring, roomLine, writing}
+use Rattle.words.specs.Paper.{roomLine}
+use Rattle.words.specs.declared.outcome.Room.the-variants.{Output}
+use Rattle.wire_check.specs.Writing.{typeIn, lengthIn, valueSize, rowSize, rowsetSize, valueOrder, valuesLimits, countOrder, rowsLimits, badTableLines, tooManyRows, limitLines, checkLines, measuring, writing}
 use Rattle.wire_check.specs.Stages.{tableOrder, fitValues, fitRow, fitRows, fitting}
 
 module _ (values : List ℕ) where
@@ -40,6 +42,6 @@ module _ (area rows values : List ℕ) where
   unfolding measuring
   measuring-walks = check-lines _
 
-  pub writing-walks : (room : ℕ) → writing area rows values room ≡ fitting area rows values (decide (roomLine (rowsetSize rows values) room ∷ []) (accepted (rowsetSize rows values) []))
+  pub writing-walks : (room : ℕ) → writing area rows values room ≡ fitting area rows values (decide (roomLine Output (rowsetSize rows values) room ∷ []) (accepted (rowsetSize rows values) []))
   unfolding writing
-  writing-walks room = decide-append (checkLines area rows values) (roomLine (rowsetSize rows values) room ∷ []) _ ∙ check-lines _
+  writing-walks room = decide-append (checkLines area rows values) (roomLine Output (rowsetSize rows values) room ∷ []) _ ∙ check-lines _

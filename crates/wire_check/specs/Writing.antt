@@ -6,7 +6,7 @@ use mathlib.Core.Bool.{Bool, _&&_, _||_, not}
 use mathlib.Core.List.{List, [], _∷_, _++_}
 use lib.ListN.{length, getD}
 use Rattle.words.specs.Answer.{Answer, accepted, refuse}
-use Rattle.words.specs.Paper.{noRoomValues}
+use Rattle.words.specs.Paper.{roomLine}
 use Rattle.words.specs.declared.outcome.Room.the-variants.{Output}
 use Rattle.words.specs.Decide.{Line, _⇒_, decide, pick, first, _<?_, _=?_, _≠?_}
 use Rattle.wire.specs.Layout.{maxRows, maxValues, maxLength, maxSize, entryWords, nullType, boolean, blob, known, payload, valuesIn}
@@ -153,12 +153,8 @@ checkLines area rows values = badTableLines area rows values ++ limitLines rows 
 unfoldable pub measuring : List ℕ → List ℕ → List ℕ → Answer
 measuring area rows values = decide (checkLines area rows values) (accepted (rowsetSize rows values) [])
 
--- 17: the size, and the bytes of the output
-abbrev pub roomLine : ℕ → ℕ → Line Answer
-roomLine size room = room <? size ⇒ refuse 17 (noRoomValues (record { room = Output; needed = size; given = room }))
-
 -- what writing into an output of so many bytes answers: how many are written
 unfoldable pub writing : List ℕ → List ℕ → List ℕ → ℕ → Answer
 writing area rows values room =
     let size = rowsetSize rows values in
-    decide (checkLines area rows values ++ roomLine size room ∷ []) (accepted size [])
+    decide (checkLines area rows values ++ roomLine Output size room ∷ []) (accepted size [])

@@ -9,8 +9,7 @@ use lib.ListN.{length}
 use Rattle.words.specs.Answer.{Answer, accepted, refuse}
 use Rattle.words.specs.Decide.{Line, _⇒_, decide, _<?_, _≠?_}
 use Rattle.words.specs.Note.{Told, _because_, finds, number, plainly, answers}
-use Rattle.words.specs.Paper.{noRoomValues}
-use Rattle.words.specs.declared.outcome.Room.{Room}
+use Rattle.words.specs.Paper.{noRoom}
 use Rattle.words.specs.declared.outcome.Room.the-variants.{Rows, Values}
 use Rattle.wire.specs.Layout.{nullMark, maxRows, maxValues, entryWords, valuesIn, countAt, nextValue, nextRow, nextRows, valueCount}
 use Rattle.wire.specs.Need.{reads}
@@ -59,11 +58,7 @@ endLines s =
 unfoldable pub inputLines : List ℕ → List (Line Told)
 inputLines s = headLines s ++ (rowsLines s (countAt s 0) 0 8 ++ endLines s)
 
--- 17: so much is needed and so much was lent
-abbrev pub noRoom : Room → ℕ → ℕ → Answer
-noRoom which n m = refuse 17 (noRoomValues (record { room = which; needed = n; given = m }))
-
--- the room in the lent tables, of which the second counts whole entries
+-- 17, the room in the lent tables, of which the second counts whole entries
 abbrev pub roomLines : List ℕ → ℕ → ℕ → List (Line Told)
 roomLines s rows values =
     rows <? countAt s 0 ⇒ (noRoom Rows (countAt s 0) rows because plainly)

@@ -13,10 +13,12 @@ use Rattle.wire.specs.Layout.{scalar, blob, known, typeAt, scalarAt, aggregateA
 use Rattle.wire.specs.Need.{lacks}
 use Rattle.wire_value.specs.ValueOrder.{valueOrder, valueReading}
 use Rattle.wire_value.specs.ValueOf.{valueOf, bitsAt, headerAt, valueAt}
-use Rattle.wire_value.specs.Paper.{typeOf, offsetOr, lengthOf, bit, paperValue}
+use Rattle.wire_value.specs.Paper.{entryOf, bit, paperValue}
+use Rattle.wire_value.specs.Stages.{typeOf, offsetOr, lengthOf}
 use Rattle.wire_value.specs.Statement.{ChecksValue, Lies, ReadsValue}
 use Rattle.wire.specs.declared.error.WireError.{WireError}
 use Rattle.wire_value.specs.declared.value.Value.{Value}
+use Rattle.wire_value.specs.declared.value.Value.the-variants.{Null, Int64, Uint64, Double, Boolean, String, Any, Composite}
 use Rattle.wire_value.specs.declared.value.Header.{Header}
 use Rattle.wire_value.specs.declared.value.UnversionedValue.{UnversionedValue}
 use Rattle.wire_value.specs.declared.value.Checked.{Checked}
@@ -82,6 +84,17 @@ by-type type is P p2 p3 p4 p5 p6 p16 p17 p18 =
 
 -- The entry's words of a value
 
+-- word by word
+pub entry-words : (id aggregate bits : ℕ) (v : Value) → entryOf id aggregate bits v ≡ id ∷ typeOf v ∷ aggregate ∷ offsetOr v bits ∷ lengthOf v ∷ []
+entry-words id aggregate bits Null = refl
+entry-words id aggregate bits (Int64 n) = refl
+entry-words id aggregate bits (Uint64 n) = refl
+entry-words id aggregate bits (Double x) = refl
+entry-words id aggregate bits (Boolean b) = refl
+entry-words id aggregate bits (String offset n) = refl
+entry-words id aggregate bits (Any offset n) = refl
+entry-words id aggregate bits (Composite offset n) = refl
+
 -- what is said of a value's type, its fourth and its fifth word
 abbrev Told : ℕ → ℕ → ℕ → ℕ → ℕ → Type 0
 Told word offset n type fill =
@@ -110,7 +123,8 @@ module _ (s : List ℕ) (at : ℕ) where
   unfolding valueAt bitsAt entry fourth fifth
   entry-told is =
       let words = told (typeAt s at) (scalarAt s at) (at + 8) (lengthAt s at) is in
-      rw (words .0, words .1, words .2, bit-flag (aggregateAt s at))
+      ap (accepted (nextValue s at)) (entry-words (valueAt s at .id) (bit (valueAt s at .aggregate)) (valueAt s at .bits) (valueAt s at .value))
+      ∙ rw (words .0, words .1, words .2, bit-flag (aggregateAt s at))
 
   -- the checks pass
   pub value-got : (r : Checked) (header : Header) (next bits : ℕ) (value : Value) → ChecksValue s at r → r ≡ Passed header next

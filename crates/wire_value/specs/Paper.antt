@@ -12,42 +12,22 @@ use Rattle.wire_value.specs.declared.value.UnversionedValue.{Unversioned
 use Rattle.wire_value.specs.declared.value.ReadValue.{ReadValue}
 use Rattle.wire_value.specs.declared.value.ReadValue.the-variants.{Got, Refused}
 
-abbrev pub typeOf : Value → ℕ
-typeOf Null = nullType
-typeOf (Int64 n) = int64
-typeOf (Uint64 n) = uint64
-typeOf (Double x) = double
-typeOf (Boolean b) = boolean
-typeOf (String offset n) = string
-typeOf (Any offset n) = any
-typeOf (Composite offset n) = composite
-
-abbrev pub offsetOr : Value → ℕ → ℕ
-offsetOr Null bits = bits
-offsetOr (Int64 x) bits = bits
-offsetOr (Uint64 x) bits = bits
-offsetOr (Double x) bits = bits
-offsetOr (Boolean b) bits = bits
-offsetOr (String offset n) bits = offset
-offsetOr (Any offset n) bits = offset
-offsetOr (Composite offset n) bits = offset
-
-abbrev pub lengthOf : Value → ℕ
-lengthOf Null = 0
-lengthOf (Int64 x) = 0
-lengthOf (Uint64 x) = 0
-lengthOf (Double x) = 0
-lengthOf (Boolean b) = 0
-lengthOf (String offset n) = n
-lengthOf (Any offset n) = n
-lengthOf (Composite offset n) = n
+-- the entry of a value with this id, aggregate flag and a scalar's bits: its type's number stands second, a scalar's
+-- bits or a blob's offset fourth, a blob's length fifth
+abbrev pub entryOf : ℕ → ℕ → ℕ → Value → List ℕ
+entryOf id aggregate bits Null = id ∷ nullType ∷ aggregate ∷ bits ∷ 0 ∷ []
+entryOf id aggregate bits (Int64 n) = id ∷ int64 ∷ aggregate ∷ bits ∷ 0 ∷ []
+entryOf id aggregate bits (Uint64 n) = id ∷ uint64 ∷ aggregate ∷ bits ∷ 0 ∷ []
+entryOf id aggregate bits (Double x) = id ∷ double ∷ aggregate ∷ bits ∷ 0 ∷ []
+entryOf id aggregate bits (Boolean b) = id ∷ boolean ∷ aggregate ∷ bits ∷ 0 ∷ []
+entryOf id aggregate bits (String offset n) = id ∷ string ∷ aggregate ∷ offset ∷ n ∷ []
+entryOf id aggregate bits (Any offset n) = id ∷ any ∷ aggregate ∷ offset ∷ n ∷ []
+entryOf id aggregate bits (Composite offset n) = id ∷ composite ∷ aggregate ∷ offset ∷ n ∷ []
 
 abbrev pub bit : Bool → ℕ
 bit true = 1
 bit false = 0
 
 abbrev pub paperValue : ReadValue → Answer
-paperValue (Got v) =
-    accepted (v .next)
-    (v .id ∷ typeOf (v .value) ∷ bit (v .aggregate) ∷ offsetOr (v .value) (v .bits) ∷ lengthOf (v .value) ∷ [])
+paperValue (Got v) = accepted (v .next) (entryOf (v .id) (bit (v .aggregate)) (v .bits) (v .value))
 paperValue (Refused refusal) = paper refusal
