@@ -8,6 +8,7 @@ use lib.Seq.{sets}
 use Rattle.words.specs.Decide.{pick, _=?_}
 use Rattle.field.specs.Field.{numberAt}
 use Rattle.error_tree.specs.Message.{attributeFields, inside}
+use Rattle.error_tree.specs.Reading.{errorEntry, attributeEntry}
 use Rattle.error_tree.specs.Tree.{Parts, none, attributeOf, errorCount, attributeCount, errorWords, attributeWords, placeOf, lengthOf, tree}
 use Rattle.error_read.specs.declared.fill.Own.{Own}
 use Rattle.error_read.specs.declared.fill.Filled.{Filled}
@@ -34,14 +35,14 @@ pub record Scanned (s fs : List ℕ) (r : Own) : Type 0 where
 -- What a part of the tree adds to the two tables: its errors behind those before it, and its attributes
 pub record Fills (p : Parts) (depth index next k : ℕ) (errors attributes errors′ attributes′ : List ℕ) (r : Filled)
     : Type 0 where
-  pub errors-are : errors′ ≡ sets errors (4 * next) (errorWords depth p)
+  pub errors-are : errors′ ≡ sets errors (errorEntry * next) (errorWords depth p)
   pub attributes-are : attributes′ ≡ sets attributes k (attributeWords index next p)
   pub next-is : r .next ≡ next + errorCount p
-  pub row-is : r .row ≡ k + 5 * attributeCount p
+  pub row-is : r .row ≡ k + attributeEntry * attributeCount p
 
 pub record Room (p : Parts) (next k : ℕ) (errors attributes : List ℕ) : Type 0 where
-  pub errors-fit : 4 * (next + errorCount p) ≤ length errors
-  pub attributes-fit : k + 5 * attributeCount p ≤ length attributes
+  pub errors-fit : errorEntry * (next + errorCount p) ≤ length errors
+  pub attributes-fit : k + attributeEntry * attributeCount p ≤ length attributes
 
 abbrev pub FillsAll : List ℕ → List ℕ → List ℕ → List ℕ → List ℕ → Type 0
 FillsAll s errors attributes errors′ attributes′ =

@@ -10,7 +10,7 @@ use mathlib.Core.Bool.{Bool, true, false, _&&_, _||_}
 use mathlib.Core.List.{List}
 use lib.ListN.{length, getD, set}
 use Rattle.words.specs.Decide.{pick, _<?_, _=?_}
-use Rattle.wire.specs.Layout.{blob}
+use Rattle.wire.specs.Layout.{blob, entryWords}
 use Rattle.pack_pairs.specs.Pairs.{typeAt, offsetAt, lengthAt, stored}
 use Rattle.pack_pairs.specs.Stages.{Alike, New, firstUse, needed}
 use Rattle.pack_links.specs.declared.Place.{Place}
@@ -22,7 +22,7 @@ link t s = getD t s 0 / 65_536
 
 -- the word over which what lies behind the entry k is linked
 abbrev pub behind : ℕ → ℕ → ℕ
-behind k x = 5 * k + 1 + x % 2
+behind k x = entryWords * k + 1 + x % 2
 
 -- the search that stands at the word s, with x and y still to turn by, comes by the entry j
 pub data Leads (t : List ℕ) : ℕ → ℕ → ℕ → ℕ → Type 0 where
@@ -32,23 +32,23 @@ pub data Leads (t : List ℕ) : ℕ → ℕ → ℕ → ℕ → Type 0 where
 -- some link names the entry k
 pub record Linked (t : List ℕ) (k : ℕ) : Type 0 where
   pub at : ℕ
-  pub over : at % 5 < 3
+  pub over : at % entryWords < 3
   pub names : link t at ≡ k + 1
 
 -- a linked entry is one of the table, and what lies behind it comes after it
 pub record Climbs (t : List ℕ) : Type 0 where
-  pub within : (k : ℕ) → Linked t k → 5 * k + 5 ≤ length t
+  pub within : (k : ℕ) → Linked t k → entryWords * k + entryWords ≤ length t
   pub upward : (k : ℕ) → Linked t k → (x m : ℕ) → link t (behind k x) ≡ m + 1 → k < m
 
 -- u has the links of t, and perhaps more
 abbrev pub Grows : List ℕ → List ℕ → Type 0
-Grows t u = (s k : ℕ) → s % 5 < 3 → link t s ≡ k + 1 → link u s ≡ k + 1
+Grows t u = (s k : ℕ) → s % entryWords < 3 → link t s ≡ k + 1 → link u s ≡ k + 1
 
 -- a word that a search comes to
 pub record Comes (t : List ℕ) (s : ℕ) : Type 0 where
-  pub over : s % 5 < 3
+  pub over : s % entryWords < 3
   pub inside : s < length t
-  pub from : (s % 5 ≡ 0) ⊎ Linked t (s / 5)
+  pub from : (s % entryWords ≡ 0) ⊎ Linked t (s / entryWords)
 
 -- a search from the word `head` that comes by the entry j
 abbrev pub Reaches : List ℕ → ℕ → ℕ → Type 0
@@ -79,10 +79,10 @@ blockStart offset = offset / 65_536 % 1_048_576 * 2_654_435_769 / 1_024
 
 -- the bucket of a pair among as many as there are entries, by the word over which its tree is linked
 unfoldable pub bucket : ℕ → ℕ → ℕ → ℕ
-bucket offset n size = 5 * ((blockStart offset + offset / 16 + n % 65_536) % size)
+bucket offset n size = entryWords * ((blockStart offset + offset / 16 + n % 65_536) % size)
 
 abbrev pub headOf : List ℕ → ℕ → ℕ
-headOf t i = bucket (offsetAt t i) (lengthAt t i) (length t / 5)
+headOf t i = bucket (offsetAt t i) (lengthAt t i) (length t / entryWords)
 
 -- whether the entry i, under its links, stores something
 abbrev pub storedUnder : List ℕ → ℕ → Bool
@@ -100,20 +100,20 @@ linkedTo t s k = set t s (getD t s 0 + 65_536 * (k + 1))
 
 -- words that leave the room for links, and few enough entries
 pub record Spare (values : List ℕ) : Type 0 where
-  pub small : (s : ℕ) → s % 5 < 3 → getD values s 0 < 65_536
+  pub small : (s : ℕ) → s % entryWords < 3 → getD values s 0 < 65_536
   pub few : length values < 2 ^ 48
-  pub whole : length values % 5 ≡ 0
+  pub whole : length values % entryWords ≡ 0
 
 -- t is `values` with links over its words
 pub record Over (values t : List ℕ) : Type 0 where
   pub as-long : length t ≡ length values
-  pub words : (s : ℕ) → s % 5 < 3 → getD t s 0 % 65_536 ≡ getD values s 0
-  pub pairs : (s : ℕ) → 3 ≤ s % 5 → getD t s 0 ≡ getD values s 0
+  pub words : (s : ℕ) → s % entryWords < 3 → getD t s 0 % 65_536 ≡ getD values s 0
+  pub pairs : (s : ℕ) → 3 ≤ s % entryWords → getD t s 0 ≡ getD values s 0
 
 -- the entry j is new and linked, or the link over its type names the first use of its pair
 abbrev pub Settled : List ℕ → List ℕ → ℕ → Type 0
 Settled values t j =
-    (New values j × Linked t j) ⊎ ((firstUse values j < j) × (link t (5 * j + 1) ≡ firstUse values j + 1))
+    (New values j × Linked t j) ⊎ ((firstUse values j < j) × (link t (entryWords * j + 1) ≡ firstUse values j + 1))
 
 -- the links after the first i entries
 pub record Linking (values t : List ℕ) (i : ℕ) : Type 0 where
@@ -126,13 +126,13 @@ pub record Linking (values t : List ℕ) (i : ℕ) : Type 0 where
 
 -- the entry i of a linked table is the first use of its pair where the link over its type does not go back
 abbrev pub goesOn : List ℕ → ℕ → Bool
-goesOn t i = (link t (5 * i + 1) =? 0) || i <? link t (5 * i + 1)
+goesOn t i = (link t (entryWords * i + 1) =? 0) || i <? link t (entryWords * i + 1)
 
 -- the fourth word of the entry i, once those before it have theirs, where the next pair goes to `at`
 abbrev pub wordFor : List ℕ → ℕ → ℕ → ℕ
 wordFor t i at =
     pick (blob (typeAt t i % 65_536))
-    (pick (0 <? lengthAt t i) (pick (goesOn t i) at (offsetAt t (link t (5 * i + 1) - 1))) 0) (offsetAt t i)
+    (pick (0 <? lengthAt t i) (pick (goesOn t i) at (offsetAt t (link t (entryWords * i + 1) - 1))) 0) (offsetAt t i)
 
 -- the room that the entry i takes
 abbrev pub roomFor : List ℕ → ℕ → ℕ
@@ -140,12 +140,15 @@ roomFor t i = pick (storedUnder t i && goesOn t i) (lengthAt t i) 0
 
 -- a linked table, and one whose pairs can be moved
 pub record Movable (values t : List ℕ) : Type 0 where
-  pub links : Linking values t (length values / 5)
-  pub whole : length values % 5 ≡ 0
+  pub links : Linking values t (length values / entryWords)
+  pub whole : length values % entryWords ≡ 0
   pub fits : needed values < 2 ^ 64
 
 -- the entry i of t without its links, its fourth word being w
 abbrev pub settled : List ℕ → ℕ → ℕ → List ℕ
 settled t i w =
-    set (set (set (set t (5 * i) (getD t (5 * i) 0 % 65_536)) (5 * i + 1) (getD t (5 * i + 1) 0 % 65_536)) (5 * i + 2)
-    (getD t (5 * i + 2) 0 % 65_536)) (5 * i + 3) w
+    let k = entryWords * i in
+    set
+    (set (set (set t k (getD t k 0 % 65_536)) (k + 1) (getD t (k + 1) 0 % 65_536)) (k + 2) (getD t (k + 2) 0 % 65_536))
+    (k + 3)
+    w

@@ -5,11 +5,12 @@ use mathlib.Core.Path.{_≡_}
 use mathlib.Core.List.{List}
 use lib.ListN.{length, getD}
 use Rattle.words.specs.Decide.{pick, _<?_}
+use Rattle.wire.specs.Layout.{entryWords}
 use Rattle.pack_pairs.specs.Packing.{table}
 
 -- a table without its links
 abbrev pub plainWord : List ℕ → ℕ → ℕ
-plainWord t k = pick ((k % 5) <? 3) (getD t k 0 % 65_536) (getD t k 0)
+plainWord t k = pick ((k % entryWords) <? 3) (getD t k 0 % 65_536) (getD t k 0)
 
 unfoldable pub plain : List ℕ → List ℕ
 plain t = table (plainWord t) 0 (length t)
