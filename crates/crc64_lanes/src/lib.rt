@@ -45,16 +45,29 @@ fn block(lanes: &mut [u64; 4], bytes: &[u8], i: usize, at: usize, out: &mut [u8]
     }
 }
 
-// The end: each register enters at its word.
+// Three words as bytes.
+type Words = [u8; 24];
+
+// The end: each register enters at its word, three of them in one stretch.
 fn joined(a: u64, b: u64, c: u64, d: u64, bytes: &[u8], i: usize) -> u64
     requires { ⌜ i + 24 ≤ length (now bytes) ⌝ }
     ensures { λ r. ⌜ r ≡ swapped 8
         (entering 0 (swapped 8 a ∷ swapped 8 b ∷ swapped 8 c ∷ swapped 8 d ∷ []) (drop i (now (bytes .entry)))) ⌝ }
 {
-    let first = fold_held(a, &bytes[i..i + 8]);
-    let second = fold_held(first ^ b, &bytes[i + 8..i + 16]);
-    let third = fold_held(second ^ c, &bytes[i + 16..i + 24]);
-    fold_held(third ^ d, &bytes[i + 24..])
+    let second = i + 8;
+    let third = i + 16;
+    let mut words: Words = [0; 24];
+    word_write::write_u64(&mut words[0..8], a ^ read_u64(&bytes[i..i + 8], 0));
+    word_write::write_u64(
+        &mut words[8..16],
+        b ^ read_u64(&bytes[second..second + 8], 0),
+    );
+    word_write::write_u64(
+        &mut words[16..24],
+        c ^ read_u64(&bytes[third..third + 8], 0),
+    );
+    let before = fold_held(0, &words);
+    fold_held(before ^ d, &bytes[i + 24..])
 }
 
 // The bytes from one place on, over `out` there, where they are copied.
