@@ -33,6 +33,9 @@ const ZEROS: u64 = 0x3030_3030_3030_3030;
 
 const ZEROS_AND_ONE: u64 = 0x3130_3030_3030_3030;
 
+// One value more than a row may have.
+const TOO_MANY_VALUES: u64 = MAX_VALUES_PER_ROW + 1;
+
 // Where the next piece begins, or the place of 19.
 pub(crate) enum Step {
     To(usize),
@@ -486,16 +489,6 @@ fn is_digit(byte: u8) -> bool
     byte < 58
 }
 
-// 11: a row with one value more than it may have.
-fn too_many(row: usize) -> Line
-    ensures { λ r. ⌜ r ≡ Line.Failed (TextError.Limit (WireError.TooManyValues row 1025)) ⌝ }
-{
-    Line::Failed(TextError::Limit(WireError::TooManyValues {
-        row,
-        count: MAX_VALUES_PER_ROW + 1,
-    }))
-}
-
 // The values of a line whose first byte is a digit, in the row of this number; with the row's word the rowset has the
 // size `before`.
 fn check_values(text: &[u8], start: usize, row: usize, before: usize) -> Line
@@ -509,11 +502,16 @@ fn check_values(text: &[u8], start: usize, row: usize, before: usize) -> Line
     let mut size = before;
     while at < text.len() {
         let byte = text[at];
-        if !is_digit(byte) {
+        let digit = is_digit(byte);
+        let full = count == MAX_VALUES_PER_ROW as usize;
+        if !digit {
             return Line::Failed(TextError::BadText { place: at });
         }
-        if count == MAX_VALUES_PER_ROW as usize {
-            return too_many(row);
+        if full {
+            return Line::Failed(TextError::Limit(WireError::TooManyValues {
+                row,
+                count: TOO_MANY_VALUES,
+            }));
         }
         match check_value(text, at + 1, (byte - b'0') as u64, size) {
             Value::Broken(refusal) => {

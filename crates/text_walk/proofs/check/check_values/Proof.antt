@@ -1,9 +1,9 @@
 -- `check::check_values` meets its contract. The invariant: what is still to come of the reading is the whole of it. Assumes nothing.
-use mathlib.Core.Path.{sym, _∙_}
+use mathlib.Core.Path.{refl, sym, _∙_}
 use Prim.Native.Nat.{_-_}
 use native.Mathlib.Omega.{arith}
 use lib.ListN.{length, getD}
-use borrow.Author.Tests.{not-true, not-false}
+use borrow.Author.Tests.{not-true, not-false, eqb-true, eqb-false}
 use Rattle.text_steps.proofs.StepLaws.{digit-range}
 use Rattle.text_walk.proofs.CheckLaws.{ValuesLeft, values-begin, values-early, values-other, values-many, values-broken, value-lies, whole-fits, counts-small, values-more, values-last}
 use borrow.Author.Needs.{needs}
@@ -36,19 +36,16 @@ returns c =
     (turn .inv) (start .pre .1) (start .pre .2) (start .pre .3) (c .before .before .before .loop-test .taken)
     (sym (c .before .is-digit .ensures) ∙ not-true _ (c .if1 .taken))
 
-too-many-requires : tie.Need-too-many-requires Inv-loop μ-loop
-too-many-requires c κs = search needs
-
 returns-2 : tie.Need-returns-2 Inv-loop μ-loop
 returns-2 c =
-    let start = c .before .before .before .before .before .before .before .before in
+    let start = c .before .before .before .before .before .before .before in
     let a = start .args in
-    let turn = c .before .before .before .before .before .before .loop in
+    let turn = c .before .before .before .before .before .loop in
     values-many (a .text .now) (a .start) (a .row) (a .before) (turn .at) (turn .count) (turn .bytes) (turn .size)
     (turn .inv) (start .pre .1) (start .pre .2) (start .pre .3)
-    (c .before .before .before .before .before .loop-test .taken)
-    (sym (c .before .before .before .is-digit .ensures) ∙ not-false _ (c .before .before .if1 .left)) _
-    (c .too-many .ensures) (c .before .if2 .taken)
+    (c .before .before .before .before .loop-test .taken)
+    (sym (c .before .before .is-digit .ensures) ∙ not-false _ (c .before .if1 .left)) _
+    refl (eqb-true _ _ (c .if2 .taken))
 
 add-check-value : tie.Need-add-check-value Inv-loop μ-loop
 add-check-value c = omega arith
@@ -84,7 +81,7 @@ returns-3 c =
     (turn .inv) (start .pre .1) (start .pre .2) (start .pre .3)
     (c .before .before .before .before .before .before .before .before .loop-test .taken)
     (sym (c .before .before .before .before .before .before .is-digit .ensures) ∙ not-false _
-    (c .before .before .before .before .before .if1 .left)) (c .before .before .before .before .if2 .left)
+    (c .before .before .before .before .before .if1 .left)) (eqb-false _ _ (c .before .before .before .before .if2 .left))
     (checked .result) (checked .ensures) _ (c .before .refusal .given .1)
 
 enum-known-next : tie.Need-enum-known-next Inv-loop μ-loop
@@ -108,16 +105,16 @@ add-bytes c =
       arith,
       counts-small (a .text .now) (a .start) (a .row) (a .before) (turn .at) (turn .count) (turn .bytes)
           (turn .size) (turn .inv) (start .pre .1) (start .pre .2) (start .pre .3) (test .taken)
-          (sym (is-digit .ensures) ∙ not-false _ (if1 .left)) (if2 .left) (checked .result) (checked .ensures)
+          (sym (is-digit .ensures) ∙ not-false _ (if1 .left)) (eqb-false _ _ (if2 .left)) (checked .result) (checked .ensures)
           (got .given .0 .0) (got .given .0 .1 .0) (got .given .0 .1 .1 .0) (got .given .0 .1 .1 .1 .0) (got .given .1) .0,
       value-lies (a .text .now) (a .start) (a .row) (a .before) (turn .at) (turn .count) (turn .bytes) (turn .size)
           (turn .inv) (start .pre .1) (start .pre .2) (start .pre .3) (test .taken)
-          (sym (is-digit .ensures) ∙ not-false _ (if1 .left)) (if2 .left) (checked .result) (checked .ensures)
+          (sym (is-digit .ensures) ∙ not-false _ (if1 .left)) (eqb-false _ _ (if2 .left)) (checked .result) (checked .ensures)
           (got .given .0 .0) (got .given .0 .1 .0) (got .given .0 .1 .1 .0) (got .given .0 .1 .1 .1 .0) (got .given .1) .1,
       start .good,
       whole-fits (a .text .now) (a .start) (a .row) (a .before) (turn .at) (turn .count) (turn .bytes)
           (turn .size) (turn .inv) (start .pre .1) (start .pre .2) (start .pre .3) (test .taken)
-          (sym (is-digit .ensures) ∙ not-false _ (if1 .left)) (if2 .left) (checked .result) (checked .ensures)
+          (sym (is-digit .ensures) ∙ not-false _ (if1 .left)) (eqb-false _ _ (if2 .left)) (checked .result) (checked .ensures)
           (got .given .0 .0) (got .given .0 .1 .0) (got .given .0 .1 .1 .0) (got .given .0 .1 .1 .1 .0) (got .given .1),
     )
 
@@ -133,7 +130,7 @@ returns-4 c =
     (c .before .before .before .before .before .before .before .before .before .loop-test .taken)
     (sym (c .before .before .before .before .before .before .before .is-digit .ensures) ∙ not-false _
     (c .before .before .before .before .before .before .if1 .left))
-    (c .before .before .before .before .before .if2 .left) (checked .result) (checked .ensures) (got .given .0 .0)
+    (eqb-false _ _ (c .before .before .before .before .before .if2 .left)) (checked .result) (checked .ensures) (got .given .0 .0)
     (got .given .0 .1 .0) (got .given .0 .1 .1 .0) (got .given .0 .1 .1 .1 .0) (got .given .1) (c .if3 .taken)
 
 loop-less : tie.Need-loop-less Inv-loop μ-loop
@@ -151,11 +148,11 @@ loop-less c =
       arith,
       value-lies (a .text .now) (a .start) (a .row) (a .before) (turn .at) (turn .count) (turn .bytes)
           (turn .size) (turn .inv) (start .pre .1) (start .pre .2) (start .pre .3) (test .taken)
-          (sym (is-digit .ensures) ∙ not-false _ (if1 .left)) (if2 .left) (checked .result) (checked .ensures)
+          (sym (is-digit .ensures) ∙ not-false _ (if1 .left)) (eqb-false _ _ (if2 .left)) (checked .result) (checked .ensures)
           (got .given .0 .0) (got .given .0 .1 .0) (got .given .0 .1 .1 .0) (got .given .0 .1 .1 .1 .0) (got .given .1) .0,
       value-lies (a .text .now) (a .start) (a .row) (a .before) (turn .at) (turn .count) (turn .bytes) (turn .size)
           (turn .inv) (start .pre .1) (start .pre .2) (start .pre .3) (test .taken)
-          (sym (is-digit .ensures) ∙ not-false _ (if1 .left)) (if2 .left) (checked .result) (checked .ensures)
+          (sym (is-digit .ensures) ∙ not-false _ (if1 .left)) (eqb-false _ _ (if2 .left)) (checked .result) (checked .ensures)
           (got .given .0 .0) (got .given .0 .1 .0) (got .given .0 .1 .1 .0) (got .given .0 .1 .1 .1 .0) (got .given .1) .1,
     )
 
@@ -171,7 +168,7 @@ loop-again c =
     (c .before .before .before .before .before .before .before .before .before .loop-test .taken)
     (sym (c .before .before .before .before .before .before .before .is-digit .ensures) ∙ not-false _
     (c .before .before .before .before .before .before .if1 .left))
-    (c .before .before .before .before .before .if2 .left) (checked .result) (checked .ensures) (got .given .0 .0)
+    (eqb-false _ _ (c .before .before .before .before .before .if2 .left)) (checked .result) (checked .ensures) (got .given .0 .0)
     (got .given .0 .1 .0) (got .given .0 .1 .1 .0) (got .given .0 .1 .1 .1 .0) (got .given .1) (c .if3 .left)
 
 returns-5 : tie.Need-returns-5 Inv-loop μ-loop
@@ -190,7 +187,6 @@ check-values-spec =
     shared-slice-read-byte
     is-digit-requires
     returns
-    too-many-requires
     returns-2
     add-check-value
     sub-check-value
