@@ -164,7 +164,7 @@ take-none : (m : ℕ) → take {A = ℕ} m [] ≡ []
 take-none zero = refl
 take-none (suc m) = refl
 
-drop-take : (n m : ℕ) (l : List ℕ) → take m (drop n l) ≡ drop n (take (m + n) l)
+pub drop-take : (n m : ℕ) (l : List ℕ) → take m (drop n l) ≡ drop n (take (m + n) l)
 drop-take zero m l = ap (λ (k : ℕ). take k l) (sym (add-zero m))
 drop-take (suc n) m [] = take-none m ∙ sym (ap (drop (suc n)) (take-none (m + suc n)))
 drop-take (suc n) m (x ∷ l) = drop-take n m l ∙ ap (λ (k : ℕ). drop (suc n) (take k (x ∷ l))) (sym (add-suc m n))

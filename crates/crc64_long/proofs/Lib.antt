@@ -2,3 +2,4 @@
 pub mod Kept
 pub mod Opened
 pub mod Unique
+pub mod Copied

@@ -3,6 +3,10 @@
 // that left last, and room for a block more.
 ghost use Rattle.crc64_sparse.specs.Stages.{span, places, xorFront, owed, filled};
 ghost use Rattle.crc64_long.specs.Stages.{blockSize, windowSize};
+ghost use mathlib.Core.Bool.{true};
+ghost use borrow.Rule.Slice.PartMut.{midOf, putMid};
+ghost use Rattle.words.specs.Buffer.{over, fitted};
+ghost use Rattle.crc64_fast.specs.Statement.{Copies};
 ghost use Rattle.crc64_long.specs.Statement.{FoldLongIs};
 ghost use Rattle.crc64.specs.Polynomial.{fold};
 ghost use mathlib.Core.Path.{_≡_};
@@ -18,8 +22,10 @@ const BLOCK: usize = 4096;
 // The window: the bytes that left last, and a block.
 const WINDOW: usize = 5952;
 
-// From how many bytes on this pays, measured.
+// From how many bytes on this pays, measured: where they are folded, and where they are copied too.
 pub const LONG_FROM: usize = 4096;
+
+pub const COPY_LONG_FROM: usize = 5120;
 
 type Window = [u8; WINDOW];
 
@@ -93,6 +99,25 @@ fn leave_all(window: &mut Window, bytes: &[u8], count: usize)
     }
 }
 
+// The first `count` bytes leave, block by block, each out of its copy.
+fn leave_copied(window: &mut Window, bytes: &[u8], count: usize, out: &mut [u8])
+    requires { ⌜ (length (now window) ≡ windowSize) × (count + span ≤ length (now bytes))
+        × (length (now bytes) ≤ length (now out)) ⌝ }
+    ensures { λ _. ⌜ (length (now (window .exit)) ≡ windowSize)
+        × (fold 0 (owed places (take span (now (window .exit))) (drop count (now (bytes .entry))))
+        ≡ fold 0 (owed places (take span (now (window .entry))) (now (bytes .entry))))
+        × (now (out .exit) ≡ over (take count (now (bytes .entry))) (now (out .entry))) ⌝ }
+{
+    let mut i = 0;
+    while i < count {
+        let next = block(count - i);
+        word_write::write_bytes(&mut out[i..], &bytes[i..i + next]);
+        leave(window, out, i, next);
+        shift(window, next);
+        i += next;
+    }
+}
+
 // The last bytes, as many as the tail has.
 fn last(bytes: &[u8], tail: &mut Tail)
     requires { ⌜ (length (now tail) ≡ span) × (span ≤ length (now bytes)) ⌝ }
@@ -122,6 +147,53 @@ fn pay_all(window: &Window, tail: &mut Tail)
     pay(window, tail, 0);
 }
 
+// The first `count` bytes leave; where they are copied, over the front of `out`, and out of their copies.
+fn leave_first(window: &mut Window, bytes: &[u8], count: usize, copies: bool, out: &mut [u8])
+    requires { ⌜ (length (now window) ≡ windowSize) × (count + span ≤ length (now bytes))
+        × (copies ≡ true → length (now bytes) ≤ length (now out)) ⌝ }
+    ensures { λ _. ⌜ (length (now (window .exit)) ≡ windowSize)
+        × (fold 0 (owed places (take span (now (window .exit))) (drop count (now (bytes .entry))))
+        ≡ fold 0 (owed places (take span (now (window .entry))) (now (bytes .entry))))
+        × (length (now (out .exit)) ≡ length (now (out .entry)))
+        × (copies ≡ true → now (out .exit) ≡ over (take count (now (bytes .entry))) (now (out .entry))) ⌝ }
+{
+    if copies {
+        leave_copied(window, bytes, count, out);
+        return;
+    }
+    leave_all(window, bytes, count);
+}
+
+// The last bytes behind the others, where they are copied.
+fn put_last(tail: &Tail, at: usize, copies: bool, out: &mut [u8])
+    requires { ⌜ (length (now tail) ≡ span) × (copies ≡ true → at ≤ length (now out)) ⌝ }
+    ensures { λ _. ⌜ (length (now (out .exit)) ≡ length (now (out .entry)))
+        × (copies ≡ true → now (out .exit) ≡ putMid at (length (now (out .entry)) - at) (now (out .entry))
+        (fitted (now (tail .entry)) (midOf at (length (now (out .entry)) - at) (now (out .entry))))) ⌝ }
+{
+    if copies {
+        word_write::write_bytes(&mut out[at..], tail);
+    }
+}
+
+// The register, held byte-swapped, after the bytes, and the bytes over the front of `out` where they are copied. It is
+// called from two places, so that its window is laid out for long strings alone.
+fn walk(register: u64, bytes: &[u8], copies: bool, out: &mut [u8]) -> u64
+    requires { ⌜ (span ≤ length (now bytes)) × (copies ≡ true → length (now bytes) ≤ length (now out)) ⌝ }
+    ensures { λ r. ⌜ FoldLongIs register (now (bytes .entry)) r
+        × (copies ≡ true → now (out .exit) ≡ fitted (now (bytes .entry)) (now (out .entry))) ⌝ }
+{
+    let mut window: Window = [0; WINDOW];
+    word_write::write_u64(&mut window, register);
+    let count = bytes.len() - SPAN;
+    leave_first(&mut window, bytes, count, copies, out);
+    let mut tail: Tail = [0; SPAN];
+    last(bytes, &mut tail);
+    put_last(&tail, count, copies, out);
+    pay_all(&window, &mut tail);
+    crc64_lanes::fold_lanes(0, &tail)
+}
+
 // The register, held byte-swapped, after the bytes, however many.
 pub fn fold_long(register: u64, bytes: &[u8]) -> u64
     ensures { λ r. ⌜ FoldLongIs register (now (bytes .entry)) r ⌝ }
@@ -129,11 +201,21 @@ pub fn fold_long(register: u64, bytes: &[u8]) -> u64
     if bytes.len() < LONG_FROM {
         return crc64_fast::fold_held(register, bytes);
     }
-    let mut window: Window = [0; WINDOW];
-    word_write::write_u64(&mut window, register);
-    leave_all(&mut window, bytes, bytes.len() - SPAN);
-    let mut tail: Tail = [0; SPAN];
-    last(bytes, &mut tail);
-    pay_all(&window, &mut tail);
-    crc64_lanes::fold_lanes(0, &tail)
+    let mut nowhere = [0u8; 0];
+    walk(register, bytes, false, &mut nowhere)
+}
+
+// The bytes over the front of `out`, and the register, held byte-swapped, after them, however many. Where `out` has not
+// the room nothing is written, and the register is the same. Strings for four registers are left to the caller: what is
+// called from one place alone is compiled into it.
+pub fn copy_long(register: u64, bytes: &[u8], out: &mut [u8]) -> u64
+    ensures { λ r. ⌜ Copies register (now (bytes .entry)) (now (out .entry)) r (now (out .exit)) ⌝ }
+{
+    if bytes.len() < LONG_FROM {
+        return crc64_fast::copy_held(register, bytes, out);
+    }
+    if out.len() < bytes.len() {
+        return crc64_fast::copy_held(register, bytes, out);
+    }
+    walk(register, bytes, true, out)
 }

@@ -1,5 +1,6 @@
 // Bus packet framing, the writing side: the parts that a lent table names in a lent area are written to a lent output
 // as one packet. Each writer is lent the part of the output that begins at its own place.
+use crc64_long::COPY_LONG_FROM;
 use guid::Guid;
 use packet::CHECKSUM_BYTES;
 use packet::COUNT_AT;
@@ -29,6 +30,7 @@ ghost use mathlib.Core.Bool.{false};
 ghost use Prim.Native.Nat.{_≤_, _+_, _*_};
 ghost use lib.ListN.{length, take};
 ghost use Rattle.words.specs.Buffer.{over};
+ghost use Rattle.crc64_fast.specs.Statement.{Copies};
 ghost use Rattle.packet.specs.Layout.{fixedFieldsSize, fixedHeaderSize, sizeBytes, checksumBytes};
 ghost use Rattle.packet.specs.Paper.{typeNumber};
 ghost use Rattle.packet.specs.Entries.{room, isTooLarge};
@@ -89,6 +91,16 @@ fn write_sizes(parts: &[u64], out: &mut [u8])
     }
 }
 
+// A part over the front of `out`, and the register of the checksum, held byte-swapped, after it.
+fn copied(bytes: &[u8], out: &mut [u8]) -> u64
+    ensures { λ r. ⌜ Copies 0 (now (bytes .entry)) (now (out .entry)) r (now (out .exit)) ⌝ }
+{
+    if COPY_LONG_FROM <= bytes.len() {
+        return crc64_long::copy_long(0, bytes, out);
+    }
+    crc64_lanes::copy_lanes(0, bytes, out)
+}
+
 // The checksum words of the parts at the front of `out`, and the parts behind them and the eight bytes of the words'
 // own checksum, which stay as they were. A part is copied and folded on one walk, and its word is put after it.
 fn write_parts(area: &[u8], parts: &[u64], out: &mut [u8])
@@ -103,7 +115,7 @@ fn write_parts(area: &[u8], parts: &[u64], out: &mut [u8])
     let mut index = 0;
     while index < count {
         let bytes = packet::part(area, parts, index);
-        let register = crc64_lanes::copy_lanes(0, bytes, &mut out[part_at..]);
+        let register = copied(bytes, &mut out[part_at..]);
         part_at += bytes.len();
         write_u64(&mut out[sum_at..], crc64::swap_bytes(register));
         sum_at += CHECKSUM_BYTES;

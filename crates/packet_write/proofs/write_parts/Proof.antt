@@ -50,17 +50,17 @@ loop-holds c =
 part-requires : tie.Need-part-requires Inv-loop μ-loop
 part-requires c κs = search needs
 
-sub-copy-lanes : tie.Need-sub-copy-lanes Inv-loop μ-loop
-sub-copy-lanes c = part-place (c .before .before .loop .inv .1)
+sub-copied : tie.Need-sub-copied Inv-loop μ-loop
+sub-copied c = part-place (c .before .before .loop .inv .1)
 
-part-copy-lanes-start : tie.Need-part-copy-lanes-start Inv-loop μ-loop
-part-copy-lanes-start c = part-place (c .before .before .loop .inv .1)
+part-copied-start : tie.Need-part-copied-start Inv-loop μ-loop
+part-copied-start c = part-place (c .before .before .loop .inv .1)
 
-part-copy-lanes-end : tie.Need-part-copy-lanes-end Inv-loop μ-loop
-part-copy-lanes-end c = search needs
+part-copied-end : tie.Need-part-copied-end Inv-loop μ-loop
+part-copied-end c = search needs
 
-copy-lanes-requires : tie.Need-copy-lanes-requires Inv-loop μ-loop
-copy-lanes-requires c κs = search needs
+copied-requires : tie.Need-copied-requires Inv-loop μ-loop
+copied-requires c κs = search needs
 
 -- the part of this turn, those after it, and that all of them are still to be written
 abbrev start-of : tie.After-part Inv-loop μ-loop → tie.Start Inv-loop μ-loop
@@ -94,7 +94,7 @@ copied : (c : tie.After-slice-known2 Inv-loop μ-loop)
     (bytesOf 8 (sumWord (this (c .before .before .before .before))) ++ sums (later (c .before .before .before .before))) (contents (later (c .before .before .before .before)))
     (start-of (c .before .before .before .before) .args .out .now)
     (putMid (c .before .before .before .before .before .before .loop .part-at) (length (c .before .before .before .before .before .before .loop .out) - c .before .before .before .before .before .before .loop .part-at)
-    (c .before .before .before .before .before .before .loop .out) (c .before .before .copy-lanes .last .1 .1 .0))
+    (c .before .before .before .before .before .before .loop .out) (c .before .before .copied .last .1 .0))
     (partsAt (start-of (c .before .before .before .before) .args .parts .now)) (c .before .before .before .before .before .before .loop .sum-at)
     (c .before .before .before .before .before .before .loop .part-at + length (c .before .before .before .before .part .result .now))
 copied c =
@@ -102,7 +102,7 @@ copied c =
     let lent = is-part at-part in
     let from : ℕ = c .before .before .before .before .before .before .loop .part-at in
     part-written (here at-part) (contents (later at-part)) (from + length (at-part .part .result .now)) (still at-part) (ap (λ (bs : List ℕ). from + length bs) (sym lent))
-    (rw lent at (c .before .before .copy-lanes .ensures .copied))
+    (rw lent at (c .before .before .copied .ensures .copied))
 
 add-part-at-2 : tie.Need-add-part-at-2 Inv-loop μ-loop
 add-part-at-2 c =
@@ -141,7 +141,7 @@ loop-less c = search needs
 loop-again : tie.Need-loop-again Inv-loop μ-loop
 loop-again c =
     let at-part = c .before .before .before .before .before .before .before .before .before in
-    let sum = swapped-back (c .before .before .before .before .before .before .before .before .before .part .result .now) (c .before .before .before .before .before .before .before .copy-lanes .ensures .folded) (c .before .before .before .swap-bytes .ensures)
+    let sum = swapped-back (c .before .before .before .before .before .before .before .before .before .part .result .now) (c .before .before .before .before .before .before .before .copied .ensures .folded) (c .before .before .before .swap-bytes .ensures)
     ∙ ap (λ (bs : List ℕ). checksum bs) (is-part at-part) ∙ sym (sum-content (this at-part)) in
     (search needs, word-put (sumWord (this at-part)) (sums (later at-part)) (copied (c .before .before .before .before .before)) (rw sum at (c .before .before .write-u64 .ensures)))
 
@@ -165,10 +165,10 @@ write-parts-spec =
     add-part-at
     loop-holds
     part-requires
-    sub-copy-lanes
-    part-copy-lanes-start
-    part-copy-lanes-end
-    copy-lanes-requires
+    sub-copied
+    part-copied-start
+    part-copied-end
+    copied-requires
     add-part-at-2
     sub-write-u64
     part-write-u64-start
