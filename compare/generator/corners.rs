@@ -25,6 +25,7 @@ pub fn list() -> Vec<String> {
     caps(&mut lines);
     large_reads(&mut lines);
     lengths(&mut lines);
+    engines(&mut lines);
     pack::corners(&mut lines);
     yson::corners(&mut lines);
     errors::corners(&mut lines);
@@ -230,6 +231,28 @@ fn large_reads(lines: &mut Vec<String>) {
         lines.push(format!("rowset 1 1 {front}+z16777217"));
         lines.push(format!("plain {front}+z16777216"));
         lines.push(format!("value 16 {front}+z16777216"));
+    }
+}
+
+/// Parts of the lengths at which another engine of the checksum takes over, written and read; the second
+/// part begins in the middle of the area.
+fn engines(lines: &mut Vec<String>) {
+    for from in [8usize, 96, 4096, 5120, 4096 + 1856, 2 * 4096 + 1856] {
+        for length in [from - 1, from, from + 1, from + 24] {
+            let area: Vec<u8> = (0..2 * length)
+                .map(|i| (i.wrapping_mul(37) ^ (i >> 7)) as u8)
+                .collect();
+            let half = length as u64;
+            lines.push(format!(
+                "packet-write 0 0 {ID} {} {} {}",
+                44 + 24 + 2 * length,
+                hex(&area),
+                words(&part_table(&[0, half, half - 3, half]))
+            ));
+            let parts = [Some(area[..length].to_vec()), Some(area[length..].to_vec())];
+            let packet = hex(&Wire::new(0, 5, id_of([9, 8, 7, 6]), &parts).bytes(|sum| sum));
+            lines.push(format!("packet 100000 65536 2 {packet}"));
+        }
     }
 }
 
