@@ -1,5 +1,7 @@
 // The checksum as callers take it, by the engine that lays nothing out. What a checksum is stands in crc64's
 // specs/Polynomial.antt. The register is held byte-swapped, as the engines work, and `finish` swaps it back.
+#![tactic(auto)]
+
 ghost use Rattle.checksum.specs.Statement.{UpdatedIs, NewIs, UpdateIs, ChainIs, AppendIs, FinishIs};
 ghost use Rattle.crc64.specs.Statement.{ChecksumIs};
 

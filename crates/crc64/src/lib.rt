@@ -1,6 +1,8 @@
 // The checksum of the bus, a CRC-64 of its own: the plain engine, a byte at a time over a table. The register is held
 // byte-swapped, so that the loop takes the lowest byte. What a checksum is stands in specs/Polynomial.antt; callers
 // take it from the crate `checksum`.
+#![tactic(auto)]
+
 ghost use Rattle.crc64.specs.Statement.{TableIs, SwapIs, FoldOverIs, FoldIs};
 
 // An entry for each byte: what it becomes in the eight steps that fold it in, byte-swapped.

@@ -1,5 +1,7 @@
 // The checksum of two strings joined, from theirs and the length of the second, by repeated squaring. What it is
 // stands in specs/Combined.antt.
+#![tactic(auto)]
+
 ghost use Rattle.crc64_combine.specs.Statement.{CombineIs};
 ghost use Rattle.crc64_combine.specs.Stages.{product, where_set};
 ghost use Rattle.crc64.specs.Polynomial.{step, steps};

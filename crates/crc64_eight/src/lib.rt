@@ -1,5 +1,7 @@
 // The checksum, eight bytes at a step over eight tables, and over tables that are lent. What a checksum is stands in
 // crc64's specs/Polynomial.antt; the fold over lent tables in specs/Lent.antt.
+#![tactic(auto)]
+
 ghost use Rattle.crc64_eight.specs.Statement.{TablesIs, FoldLentIs, ChecksumLentIs, Fold8Is};
 ghost use Rattle.crc64_eight.specs.Lent.{one_table, eight_tables, looked, fold_whole, fold_eight};
 ghost use Rattle.crc64.specs.Table.{fold_over};

@@ -1,5 +1,7 @@
 // The checksum's register, 32 bytes on, with no table laid out, as crc64_near has it for eight: for four registers side
 // by side, each of which takes every fourth word. What a step is stands in crc64's specs/Polynomial.antt.
+#![tactic(auto)]
+
 ghost use Rattle.crc64_far.specs.Statement.{FarIs};
 ghost use Rattle.crc64.specs.Table.{entry};
 ghost use Rattle.std.specs.Prelude.{◌≡◌};

@@ -1,6 +1,8 @@
 // The checksum with nothing laid out: one to eight bytes first, so that whole words are left, and then eight bytes at a
 // step; and bytes copied on the same walk, where each is loaded once, and what is stored and what is folded is what was
 // loaded. What a checksum is stands in crc64's specs/Polynomial.antt.
+#![tactic(auto)]
+
 ghost use Rattle.std.specs.Prelude.{false, ◌≡◌, ◌+◌, ◌-◌, ◌≤◌, ◌<◌, length, take};
 ghost use borrow.Rule.Slice.PartMut.{mid_of, put_mid};
 ghost use Rattle.words.specs.Word.{word, bytes_of};

@@ -1,6 +1,8 @@
 // The checksum by four registers side by side, so that no word waits for the one before it: each register takes every
 // fourth word and goes 32 bytes on. Bytes are copied on the same walk. What a checksum is stands in crc64's
 // specs/Polynomial.antt.
+#![tactic(auto)]
+
 ghost use Rattle.std.specs.Prelude.{true, ◌≡◌, List, [], ◌∷◌, ℕ, ◌+◌, ◌-◌, ◌≤◌, length, take, drop};
 ghost use borrow.Rule.Slice.PartMut.{mid_of, put_mid};
 ghost use Rattle.words.specs.Decide.{pick};

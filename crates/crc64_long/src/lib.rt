@@ -1,6 +1,8 @@
 // The checksum of long strings by a sparse multiple of its polynomial: all but the last 1,856 bytes leave by exclusive
 // ors of whole bytes, and what they owe is paid in the last ones. The law is crc64_sparse's. The window holds the bytes
 // that left last, and room for a block more.
+#![tactic(auto)]
+
 ghost use Rattle.crc64_sparse.specs.Stages.{span, places, xor_front, owed, filled};
 ghost use Rattle.crc64_long.specs.Stages.{block_size, window_size};
 ghost use Rattle.std.specs.Prelude.{true, ◌≡◌, ◌+◌, ◌-◌, ◌≤◌, ◌<◌, length, take, drop};

@@ -1,6 +1,8 @@
 // The checksum's register, eight bytes on, with no table laid out: a constant array is written to memory again at each
 // call, but a match on a byte whose arms are numbers is data that is only read. What a step is stands in crc64's
 // specs/Polynomial.antt.
+#![tactic(auto)]
+
 ghost use Rattle.crc64_near.specs.Statement.{NearIs};
 ghost use Rattle.crc64.specs.Table.{entry};
 ghost use Rattle.std.specs.Prelude.{◌≡◌};

@@ -1,1 +1,2 @@
 // The law of the sparse multiple: theorems alone, in proofs/.
+#![tactic(auto)]

@@ -1,4 +1,6 @@
 // The checksum, of one stretch of bytes or of several, by either engine, and of stretches whose checksums are known.
+#![tactic(auto)]
+
 ghost use Rattle.crc64.specs.Statement.{ChecksumIs, FoldIs, SwapIs};
 ghost use Rattle.crc64_combine.specs.Statement.{CombineIs};
 ghost use Rattle.crc64_eight.specs.Statement.{Fold8Is};

@@ -1,4 +1,6 @@
 // Error messages from the cluster (TErrors): read into lent tables of errors and attributes, measured, written.
+#![tactic(auto)]
+
 ghost use Rattle.words.specs.Paper.{Tells};
 ghost use Rattle.error_read.specs.Paper.{decoded_paper};
 ghost use Rattle.error_write.specs.Paper.{measured_paper, encoded_paper};

@@ -1,4 +1,6 @@
 // GUIDs: an id is lent as its sixteen wire bytes, of which a missing one counts as 0.
+#![tactic(auto)]
+
 ghost use Rattle.std.specs.Prelude.{◌≡◌};
 ghost use Rattle.words.specs.Answer.{accepted};
 ghost use Rattle.words.specs.Paper.{Tells};

@@ -1,4 +1,6 @@
 // Notes: Any and Composite values, which are YSON. Whether bytes are one node, and where the items of an outer map lie.
+#![tactic(auto)]
+
 ghost use Rattle.words.specs.Paper.{Tells};
 ghost use Rattle.yson.specs.Paper.{paper};
 ghost use Rattle.face_notes.specs.Statement.{ChecksYson, ListsYson};

@@ -1,5 +1,7 @@
 // Packets written from a lent part table. A type is its number; an unknown one is refused by 2, before all else. A mode
 // is a number too: 0 is archive, any other is live.
+#![tactic(auto)]
+
 ghost use Rattle.packet_write.specs.Paper.{paper};
 ghost use Rattle.face_parts.specs.Statement.{unknown_type};
 ghost use Rattle.face_packet_write.specs.Statement.{Encodes};

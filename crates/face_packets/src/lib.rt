@@ -1,5 +1,7 @@
 // Packets read into a lent part table. A mode is a number: 0 is archive, any other is live. Writing stands in
 // `face_packet_write`: so the loops of the checksum's engine that are compiled into the reader copy nothing.
+#![tactic(auto)]
+
 ghost use Rattle.packet_sum.specs.Statement.{PartChecksumIs};
 ghost use Rattle.packet_read.specs.Statement.{default_ceiling};
 ghost use Rattle.face_packets.specs.Statement.{Decodes};

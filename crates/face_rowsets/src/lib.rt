@@ -1,5 +1,7 @@
 // Rowsets: read into lent row and value tables, written from them; one value by itself; the plain form; the bytes
 // behind a value table packed.
+#![tactic(auto)]
+
 ghost use Rattle.words.specs.Paper.{Tells};
 ghost use Rattle.wire_read.specs.Paper.{paper_decoded};
 ghost use Rattle.wire_read.specs.Statement.{TellsPlain};

@@ -1,5 +1,7 @@
 // Rowsets as tab-separated text: measured and written from lent tables over an area, and read into lent tables and a
 // lent area.
+#![tactic(auto)]
+
 ghost use Rattle.words.specs.Paper.{Tells};
 ghost use Rattle.text_walk.specs.Paper.{text_paper, walked_paper};
 ghost use Rattle.face_text.specs.Statement.{MeasuresText, WritesRowsetText, ReadsRowsetText};

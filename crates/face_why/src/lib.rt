@@ -1,4 +1,6 @@
 // The static library's functions that tell a person why a buffer was refused: a finding as a struct of words.
+#![tactic(auto)]
+
 ghost use Rattle.face_why.specs.Statement.{WhysPacket, WhysRowset};
 
 use packet_mode::mode_of;

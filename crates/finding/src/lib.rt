@@ -1,5 +1,7 @@
 // What a person is told of an input (document 02, A9): which length is waited for, or which field was looked at, where
 // it stands, what was found there and what was wanted. The readers' orders of checks have it beside each line.
+#![tactic(auto)]
+
 ghost use Rattle.std.specs.Prelude.{◌≡◌, [], ◌∷◌};
 ghost use Rattle.words.specs.Paper.{outcome_of};
 ghost use Rattle.finding.specs.Words.{place_words, NumbersField, TellsFinding};

@@ -1,5 +1,7 @@
 // A field's name as text, over the front of a lent part; where it does not fit the part keeps its contents, and the
 // count is told all the same.
+#![tactic(auto)]
+
 ghost use Rattle.numerals.specs.Statement.{Writes};
 ghost use Rattle.finding_name.specs.Statement.{WritesName};
 

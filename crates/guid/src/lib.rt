@@ -1,6 +1,8 @@
 // YTsaurus GUIDs after guid.rs: sixteen wire bytes, four little-endian words, two halves. A GUID is held as its four
 // words, so that the enum of an answer can carry it; the wire bytes are read and written at the border. Its text is in
 // `guid_text`.
+#![tactic(auto)]
+
 ghost use Rattle.std.specs.Prelude.{◌≡◌};
 ghost use Rattle.words.specs.Statement.{Leaves};
 ghost use Rattle.guid.specs.Guid.{wire_bytes};

@@ -1,5 +1,7 @@
 // A GUID's text after guid.rs: four fields of hex digits between dashes, the last word first; how long it is, written,
 // and read. A text that is refused says where it goes wrong and why.
+#![tactic(auto)]
+
 ghost use Rattle.std.specs.Prelude.{◌≡◌};
 ghost use Rattle.guid_text.specs.Statement.{SizesText, Prints, Parses};
 

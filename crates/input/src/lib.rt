@@ -1,5 +1,7 @@
 // A descriptor read whole into a lent buffer, for the programs; a read that fails is told, and not taken for the
 // input's end.
+#![tactic(auto)]
+
 ghost use Rattle.input.specs.Statement.{Inside};
 
 // What `read_whole` answers: how many bytes it put at the buffer's front, or that a read failed.

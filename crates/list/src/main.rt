@@ -1,6 +1,8 @@
 // Lists the packets on standard input: document 01, the program `list`. What it prints is made whole by the crate
 // `listing`; what is left is to read and to write. A read error is told on standard error, and nothing on standard
 // output.
+#![tactic(auto)]
+
 use libc::{STDERR_FILENO, STDIN_FILENO};
 
 fn main() {

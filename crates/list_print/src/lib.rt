@@ -1,4 +1,6 @@
 // What a descriptor holds, listed to standard output: the reading and writing of the programs that list.
+#![tactic(auto)]
+
 use input::Input;
 use libc::STDOUT_FILENO;
 use listing::Listed;

@@ -1,5 +1,7 @@
 // Lists each file that its arguments name, behind a line with the name: inputs at the edges of `list`, with the output
 // that each must have, for a gate that runs a program on one standard input only.
+#![tactic(auto)]
+
 use libc::{STDERR_FILENO, STDOUT_FILENO};
 
 fn list_file(name: &[u8]) {

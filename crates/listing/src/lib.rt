@@ -1,5 +1,7 @@
 // What the program `list` prints, whole, as one function of its input: a line for each packet and part, and how the
 // bytes end. The program over it only reads and writes.
+#![tactic(auto)]
+
 ghost use Rattle.std.specs.Prelude.{◌≡◌, [], ◌∷◌, ◌++◌, ◌+◌, ◌*◌, ◌≤◌, ◌<◌, length};
 ghost use Rattle.words.specs.Buffer.{over};
 ghost use Rattle.packet.specs.Entries.{entry_words};

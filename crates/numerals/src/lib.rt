@@ -1,6 +1,8 @@
 // Numbers as text: decimal for offsets and counts, hex for the words of a GUID. A number is spelled highest digit
 // first, without leading zeros, over the front of a lent part; where it does not fit the part keeps its contents, and
 // the count is told all the same.
+#![tactic(auto)]
+
 ghost use Rattle.std.specs.Prelude.{◌≡◌, ◌^◌, ◌<◌, ◌≤◌, length};
 ghost use Rattle.words.specs.Text.{digit, spelled};
 ghost use Rattle.words.specs.Buffer.{over};

@@ -1,5 +1,7 @@
 // Packing with links: each pair is found by a search along links that are kept in the spare bits of the table's words
 // while the function runs, and are taken out before it returns.
+#![tactic(auto)]
+
 ghost use Rattle.std.specs.Prelude.{◌≡◌, ◌+◌, ◌*◌, ◌^◌, ◌<◌, ◌≤◌, ◌%◌, length};
 ghost use Rattle.words.specs.Buffer.{over};
 ghost use Rattle.wire.specs.Layout.{entry_words};

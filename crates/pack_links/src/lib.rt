@@ -1,5 +1,7 @@
 // Links between the entries of a value table that name one pair of offset and length, kept in the spare bits of their
 // words while packing runs: what a search along them ends at, how all are taken out, and their laws.
+#![tactic(auto)]
+
 ghost use Rattle.std.specs.Prelude.{◌<◌, ◌≡◌, length};
 ghost use Rattle.pack_links.specs.Statement.{plain_word, Unlinks};
 

@@ -1,5 +1,7 @@
 // Packing that looks for each pair among all earlier entries. It is for tables too long for links; no memory holds
 // one.
+#![tactic(auto)]
+
 ghost use Rattle.std.specs.Prelude.{◌≡◌, ◌&&◌, ◌+◌, ◌*◌, ◌%◌, ◌^◌, ◌<◌, ◌≤◌, length};
 ghost use Rattle.words.specs.Buffer.{over};
 ghost use Rattle.wire.specs.Layout.{entry_words};

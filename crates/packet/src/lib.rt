@@ -1,5 +1,7 @@
 // What a bus packet is: its types, flags and refusals, its layout, and the lent part table with what its entries name
 // in an input or an area. The reader, the writer's checks and the writer rest on it.
+#![tactic(auto)]
+
 ghost use Rattle.packet.specs.Statement.{TellsRetired, TellsVariableHeader, Contains, TellsNull, TellsOutside, LendsPart, NumbersType, FindsType, Refuses};
 
 use guid::Guid;

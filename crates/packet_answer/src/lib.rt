@@ -1,5 +1,7 @@
 // What the packet reader answers, and that answer in words. It stands below the reader, and so needs no engine of the
 // checksum.
+#![tactic(auto)]
+
 ghost use Rattle.packet_answer.specs.Statement.{TellsDecoded};
 
 use packet::{Packet, PacketError, type_number};

@@ -1,4 +1,6 @@
 // What a writer of packets checks before it writes, and how many bytes it will write.
+#![tactic(auto)]
+
 ghost use Rattle.std.specs.Prelude.{◌≡◌, ◌≤◌, ◌*◌};
 ghost use Rattle.packet.specs.Layout.{largest_part};
 ghost use Rattle.packet.specs.Paper.{type_number};

@@ -1,4 +1,6 @@
 // A packet's mode as callers in other languages give it: 0 is archive, any other number is live.
+#![tactic(auto)]
+
 ghost use Rattle.packet_mode.specs.Statement.{GivesMode};
 
 use packet::Mode;

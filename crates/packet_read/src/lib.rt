@@ -1,6 +1,8 @@
 // Bus packet framing, the reading side: a packet is a fixed header of 36 bytes, mostly a variable header of part sizes
 // and checksums, and the parts. Everything is a function of lent bytes; the parts are given back as stretches of the
 // input.
+#![tactic(auto)]
+
 ghost use Rattle.std.specs.Prelude.{◌≡◌, not, ◌&&◌, ◌+◌, ◌*◌, ◌≤◌, ◌<◌, min, length};
 ghost use Rattle.words.specs.Decide.{pick, ◌=?◌, ◌<?◌};
 ghost use Rattle.words.specs.Buffer.{over};

@@ -1,4 +1,6 @@
 // The checksum of a packet's part. It stands apart from `packet`, which so needs no engine of the checksum.
+#![tactic(auto)]
+
 ghost use Rattle.packet_sum.specs.Statement.{PartChecksumIs};
 
 use packet::part;

@@ -1,5 +1,7 @@
 // Bus packet framing, the writing side: the parts that a lent table names in a lent area are written to a lent output
 // as one packet. Each writer is lent the part of the output that begins at its own place.
+#![tactic(auto)]
+
 ghost use Rattle.std.specs.Prelude.{◌≡◌, false, ◌≤◌, ◌+◌, ◌*◌, length, take};
 ghost use Rattle.words.specs.Buffer.{over};
 ghost use Rattle.crc64_fast.specs.Statement.{Copies};

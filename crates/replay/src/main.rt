@@ -1,6 +1,8 @@
 // Answers the cases on standard input, one a line, with the port: compare/PROTOCOL.md says what a case and an answer
 // look like. Its file `stdout` holds the Rust's answers. The work is in `run`, `packets` and `rowsets`, over the
 // exported functions; the words of a case in `read` and those of an answer in `say`.
+#![tactic(auto)]
+
 use libc::STDIN_FILENO;
 
 mod packets;

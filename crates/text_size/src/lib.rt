@@ -1,4 +1,6 @@
 // How many bytes the text of a rowset has, with the checks of the rowset's writer.
+#![tactic(auto)]
+
 ghost use Rattle.std.specs.Prelude.{◌≡◌, false, ◌+◌, ◌*◌, ◌%◌, ◌<◌, ◌≤◌, ◌^◌};
 ghost use lib.ListN.{length};
 ghost use Rattle.wire.specs.Layout.{entry_words, values_in};

@@ -1,5 +1,7 @@
 // What single bytes of a rowset's text spell, for its writer and its reader: a type's letter, a blob's byte, a hex
 // digit.
+#![tactic(auto)]
+
 ghost use Rattle.std.specs.Prelude.{◌≡◌, ◌+◌, ◌≤◌};
 ghost use Rattle.words.specs.Decide.{pick, ◌<?◌};
 ghost use Rattle.text_spell.specs.Statement.{IsLetter, IsType, TellsEscaped, IsSmallValue, IsCapitalValue};

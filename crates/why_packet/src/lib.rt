@@ -1,5 +1,7 @@
 // Why a packet was refused, or what is waited for (document 02, A9): the reader is asked, and its answer is told to a
 // person.
+#![tactic(auto)]
+
 ghost use Rattle.std.specs.Prelude.{◌≡◌, min};
 ghost use Rattle.packet.specs.Layout.{most_parts};
 ghost use Rattle.packet.specs.Paper.{number_of, values_of};

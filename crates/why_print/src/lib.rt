@@ -1,4 +1,6 @@
 // What a descriptor holds, explained to standard output: the reading and writing of the programs that explain.
+#![tactic(auto)]
+
 use input::Input;
 use libc::STDOUT_FILENO;
 use why_text::Line;

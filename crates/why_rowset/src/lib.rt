@@ -1,5 +1,7 @@
 // Why a rowset was refused, or why an accepted one is not plain (document 02, A9): one walk over the input, front to
 // back, that keeps where it stands and the first byte that breaks the plain form.
+#![tactic(auto)]
+
 ghost use Rattle.why_rowset.specs.Checks.{ExplainsRowset};
 
 use finding::Finding;

@@ -1,5 +1,7 @@
 // Explains each file that its arguments name, behind a line with the name: the worked examples of `why`, every number
 // and every field, with the line that each must have, for a gate that runs a program on one standard input only.
+#![tactic(auto)]
+
 use libc::{STDERR_FILENO, STDOUT_FILENO};
 
 fn explain_file(name: &[u8]) {

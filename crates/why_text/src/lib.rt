@@ -1,4 +1,6 @@
 // A finding as the line of text that the program `why` prints (document 02, A9).
+#![tactic(auto)]
+
 ghost use Rattle.why_text.specs.Statement.{WritesLine, Fits};
 
 use finding::Finding;

@@ -1,6 +1,8 @@
 // What the program `why` prints, whole, as one function of its input (document 02, A9): one line that says why the
 // packet or rowset behind the first line is refused, what is waited for, or that nothing is wrong. The program over it
 // only reads and writes.
+#![tactic(auto)]
+
 ghost use Rattle.std.specs.Prelude.{◌≡◌, ◌≤◌, length};
 ghost use Rattle.words.specs.Text.{text};
 ghost use Rattle.why_text.specs.Text.{line_room};

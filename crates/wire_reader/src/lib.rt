@@ -1,6 +1,8 @@
 // The Rust's `Reader`: the input beside an offset in it, and thin functions over it, each of which takes the struct
 // apart and calls a function of a slice and a number. A state goes in by value; where the next read begins stands in
 // the answer.
+#![tactic(auto)]
+
 ghost use Rattle.wire_value.specs.Statement.{ReadsValue};
 ghost use Rattle.wire.specs.Need.{Needs};
 ghost use Rattle.wire_reader.specs.Statement.{ReadsU64};

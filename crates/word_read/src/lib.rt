@@ -1,5 +1,7 @@
 // Little-endian words of 2, 4 and 8 bytes, read at any offset of a slice: Rust's `from_le_bytes`. A byte past the
 // slice's end counts as 0. What a word is stands in the specs/ of `words`.
+#![tactic(auto)]
+
 ghost use Rattle.std.specs.Prelude.{◌+◌, ◌≤◌, length};
 ghost use Rattle.words.specs.Statement.{ReadsWord};
 

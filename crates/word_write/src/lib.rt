@@ -1,5 +1,7 @@
 // Little-endian words of 2, 4 and 8 bytes and runs of bytes, written to the front of a lent part: Rust's `put_*_le`,
 // `put_slice` and `put_bytes`. What does not fit is not written at all. What a word is stands in the specs/ of `words`.
+#![tactic(auto)]
+
 ghost use Rattle.std.specs.Prelude.{replicate};
 ghost use Rattle.words.specs.Word.{bytes_of};
 ghost use Rattle.words.specs.Statement.{Leaves};

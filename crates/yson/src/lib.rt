@@ -1,6 +1,8 @@
 // YSON's binary form (document 02, A4): whether bytes are one node within 64 open brackets, where they fail, and
 // where the items of an outer map begin and end. Node, object, list and pairs call each other, and the remaining depth
 // falls.
+#![tactic(auto)]
+
 ghost use Rattle.std.specs.Prelude.{◌≡◌, ◌+◌, ◌<◌, ◌≤◌, length};
 ghost use Rattle.yson_token.specs.Token.{square, closing};
 ghost use Rattle.yson_grammar.specs.Stages as Machine;

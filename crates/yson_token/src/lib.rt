@@ -1,5 +1,7 @@
 // The tokens of YSON's binary form (document 02, A4): where the one that begins at an offset ends. A byte past the
 // end of the input counts as 0, which begins no token.
+#![tactic(auto)]
+
 ghost use Rattle.yson_token.specs.Token.{number_end, text_end};
 ghost use Rattle.yson_token.specs.Statement.{ReadsByte, Finds, FindsScalar, FindsKey};
 

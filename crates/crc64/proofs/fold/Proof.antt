@@ -4,22 +4,22 @@ use borrow.Author.Rules.{rules}
 use Rattle.crc64.proofs.fold.Statement.{statement}
 use Rattle.crc64.proofs.fold.Tie as tie
 
-table-requires : tie.Need-table-requires
+table-requires : tie.Need-table-table-requires
 table-requires c κs = search rules
 
-swap-bytes-requires : tie.Need-swap-bytes-requires
-swap-bytes-requires c κs = search rules
+swap_bytes-requires : tie.Need-swap_bytes-requires
+swap_bytes-requires c κs = search rules
 
-fold-over-requires : tie.Need-fold-over-requires
-fold-over-requires c κs = search rules
+fold_over-requires : tie.Need-fold_over-requires
+fold_over-requires c κs = search rules
 
-swap-bytes-requires-2 : tie.Need-swap-bytes-requires-2
-swap-bytes-requires-2 c κs = search rules
+swap_bytes-requires-2 : tie.Need-swap_bytes-requires-2
+swap_bytes-requires-2 c κs = search rules
 
 returns : tie.Need-returns
 returns c =
-    fold_is _ _ c.before.before.before.before.table.ensures c.before.before.swap_bytes.ensures c.before.fold_over.ensures
-    c.swap-bytes2.ensures (search rules) (λ i. (c.before.before.before.before.before.shared-slice-known.given i).fits)
+    fold_is _ _ c.table-table.ensures c.swap_bytes.ensures c.fold_over.ensures
+    c.swap_bytes-2.ensures (search rules) (λ i. (c.shared_slice_known-1.given i).fits)
 
-pub fold-spec : {M : Type 1} → statement M
-fold-spec = tie.close (tie.spec table-requires swap-bytes-requires fold-over-requires swap-bytes-requires-2 returns)
+pub fold_spec : {M : Type 1} → statement M
+fold_spec = tie.close (tie.spec table-requires swap_bytes-requires fold_over-requires swap_bytes-requires-2 returns)

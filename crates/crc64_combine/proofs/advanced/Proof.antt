@@ -7,35 +7,35 @@ use Rattle.crc64_combine.proofs.Loops.{Reached, entering, squared, through}
 use Rattle.crc64_combine.proofs.advanced.Statement.{statement}
 use Rattle.crc64_combine.proofs.advanced.Tie as tie
 
-abbrev invariant-loop : tie.invariant-loop
+abbrev invariant-loop : tie.invariant-loop-left
 invariant-loop a length register₀ power₀ left₀ register power left = Reached power left register (steps (8 * length) a)
 
-abbrev decreases-loop : tie.decreases-loop
+abbrev decreases-loop : tie.decreases-loop-left
 decreases-loop a length register₀ power₀ left₀ register power left = left
 
-loop-holds : tie.Need-loop-init invariant-loop decreases-loop
+loop-holds : tie.Need-loop-left-init invariant-loop decreases-loop
 loop-holds c = entering c.args.a c.args.length (search rules)
 
-one-turn-requires : tie.Need-one-turn-requires invariant-loop decreases-loop
-one-turn-requires c κs = search rules
+one_turn-requires : tie.Need-one_turn-next-requires invariant-loop decreases-loop
+one_turn-requires c κs = search rules
 
-loop-less : tie.Need-loop-smaller invariant-loop decreases-loop
+loop-less : tie.Need-loop-left-smaller invariant-loop decreases-loop
 loop-less c = search rules
 
-loop-again : tie.Need-loop-preserved invariant-loop decreases-loop
-loop-again c = squared c.before.before.loop.invariant c.one-turn.ensures.0 c.one-turn.ensures.1
+loop-again : tie.Need-loop-left-preserved invariant-loop decreases-loop
+loop-again c = squared c.loop-left.invariant c.one_turn-next.ensures.0 c.one_turn-next.ensures.1
 
 returns : tie.Need-returns invariant-loop decreases-loop
-returns c = through (search rules) c.before.loop.invariant
+returns c = through (search rules) c.loop-left.invariant
 
-pub advanced-spec : {M : Type 1} → statement M
-advanced-spec =
+pub advanced_spec : {M : Type 1} → statement M
+advanced_spec =
     tie.close
     (tie.spec
     invariant-loop
     decreases-loop
     loop-holds
-    one-turn-requires
+    one_turn-requires
     loop-less
     loop-again
     returns)

@@ -12,7 +12,7 @@ advanced-requires c κs = search rules
 
 returns : tie.Need-returns
 unfolding combined
-returns c = ap (λ (z : ℕ). bit_xor z c.before.args.b) c.advanced.ensures
+returns c = ap (λ (z : ℕ). bit_xor z c.args.b) c.advanced.ensures
 
-pub combine-spec : {M : Type 1} → statement M
-combine-spec = tie.close (tie.spec advanced-requires returns)
+pub combine_spec : {M : Type 1} → statement M
+combine_spec = tie.close (tie.spec advanced-requires returns)

@@ -5,11 +5,11 @@ use Rattle.crc64_combine.proofs.Loops.{top_lt, step_is}
 use Rattle.crc64_combine.proofs.stepped.Statement.{statement}
 use Rattle.crc64_combine.proofs.stepped.Tie as tie
 
-mul-result : tie.Need-overflow-mul-result
+mul-result : tie.Need-overflow_mul-result
 mul-result c = omega (arith, top_lt c.args.r (search rules))
 
 returns : tie.Need-returns
 returns c = step_is _ (search rules)
 
-pub stepped-spec : {M : Type 1} → statement M
-stepped-spec = tie.close (tie.spec mul-result returns)
+pub stepped_spec : {M : Type 1} → statement M
+stepped_spec = tie.close (tie.spec mul-result returns)

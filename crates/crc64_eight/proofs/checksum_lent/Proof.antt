@@ -5,14 +5,14 @@ use borrow.Author.Rules.{rules}
 use Rattle.crc64_eight.proofs.checksum_lent.Statement.{statement}
 use Rattle.crc64_eight.proofs.checksum_lent.Tie as tie
 
-fold-lent-requires : tie.Need-fold-lent-requires
-fold-lent-requires c κs = search rules
+fold_lent-requires : tie.Need-fold_lent-requires
+fold_lent-requires c κs = search rules
 
-swap-bytes-requires : tie.Need-swap-bytes-requires
-swap-bytes-requires c κs = search rules
+swap_bytes-requires : tie.Need-swap_bytes-requires
+swap_bytes-requires c κs = search rules
 
 returns : tie.Need-returns
-returns c = c.swap_bytes.ensures ∙ ap (swapped 8) c.before.fold-lent.ensures
+returns c = c.swap_bytes.ensures ∙ ap (swapped 8) c.fold_lent.ensures
 
-pub checksum-lent-spec : {M : Type 1} → statement M
-checksum-lent-spec = tie.close (tie.spec fold-lent-requires swap-bytes-requires returns)
+pub checksum_lent_spec : {M : Type 1} → statement M
+checksum_lent_spec = tie.close (tie.spec fold_lent-requires swap_bytes-requires returns)

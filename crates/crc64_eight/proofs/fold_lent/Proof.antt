@@ -4,21 +4,21 @@ use borrow.Author.Rules.{rules}
 use Rattle.crc64_eight.proofs.fold_lent.Statement.{statement}
 use Rattle.crc64_eight.proofs.fold_lent.Tie as tie
 
-returns : tie.Need-returns
+returns : tie.Need-returns-then-tables-lt-ONE_TABLE
 returns c = lent_none _ _ _ (search rules)
 
-fold-bytes-requires : tie.Need-fold-bytes-requires
-fold-bytes-requires c κs = search rules
+fold_bytes-requires : tie.Need-fold_bytes-requires
+fold_bytes-requires c κs = search rules
 
-returns-2 : tie.Need-returns-2
-returns-2 c = lent_one _ _ _ (search rules) (search rules) c.fold-bytes.ensures
+returns-2 : tie.Need-returns-then-tables-lt-EIGHT_TABLES
+returns-2 c = lent_one _ _ _ (search rules) (search rules) c.fold_bytes.ensures
 
-fold-eight-requires : tie.Need-fold-eight-requires
-fold-eight-requires c κs = search rules
+fold_eight-requires : tie.Need-fold_eight-requires
+fold_eight-requires c κs = search rules
 
-returns-3 : tie.Need-returns-3
-returns-3 c = lent_eight _ _ _ (search rules) c.fold-eight.ensures
+returns-3 : tie.Need-returns
+returns-3 c = lent_eight _ _ _ (search rules) c.fold_eight.ensures
 
-pub fold-lent-spec : {M : Type 1} → statement M
-fold-lent-spec =
-    tie.close (tie.spec returns fold-bytes-requires returns-2 fold-eight-requires returns-3)
+pub fold_lent_spec : {M : Type 1} → statement M
+fold_lent_spec =
+    tie.close (tie.spec returns fold_bytes-requires returns-2 fold_eight-requires returns-3)

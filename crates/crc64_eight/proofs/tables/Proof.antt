@@ -17,5 +17,5 @@ returns : tie.Need-returns
 unfolding step steps swapped entry spanned spanned_from
 returns c = spans _ refl
 
-pub tables-spec : {M : Type 1} → statement M
-tables-spec = tie.close (tie.spec returns)
+pub tables_spec : {M : Type 1} → statement M
+tables_spec = tie.close (tie.spec returns)

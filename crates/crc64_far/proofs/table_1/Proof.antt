@@ -17,1032 +17,1032 @@ powers : Powers 208 0 bits
 unfolding step steps swapped entry
 powers = (refl, (refl, (refl, (refl, (refl, (refl, (refl, (refl, tt))))))))
 
-returns : tie.Need-returns
+returns : tie.Need-returns-in-0
 unfolding mixed
-returns c = hit_mixed 208 bits powers (lit< tt) c.match.keys1 refl
+returns c = hit_mixed 208 bits powers (lit< tt) c.in-0.is refl
 
-returns-2 : tie.Need-returns-2
+returns-2 : tie.Need-returns-in-1
 unfolding mixed
-returns-2 c = hit_mixed 208 bits powers (lit< tt) c.match.keys2 refl
+returns-2 c = hit_mixed 208 bits powers (lit< tt) c.in-1.is refl
 
-returns-3 : tie.Need-returns-3
+returns-3 : tie.Need-returns-in-2
 unfolding mixed
-returns-3 c = hit_mixed 208 bits powers (lit< tt) c.match.keys3 refl
+returns-3 c = hit_mixed 208 bits powers (lit< tt) c.in-2.is refl
 
-returns-4 : tie.Need-returns-4
+returns-4 : tie.Need-returns-in-3
 unfolding mixed
-returns-4 c = hit_mixed 208 bits powers (lit< tt) c.match.keys4 refl
+returns-4 c = hit_mixed 208 bits powers (lit< tt) c.in-3.is refl
 
-returns-5 : tie.Need-returns-5
+returns-5 : tie.Need-returns-in-4
 unfolding mixed
-returns-5 c = hit_mixed 208 bits powers (lit< tt) c.match.keys5 refl
+returns-5 c = hit_mixed 208 bits powers (lit< tt) c.in-4.is refl
 
-returns-6 : tie.Need-returns-6
+returns-6 : tie.Need-returns-in-5
 unfolding mixed
-returns-6 c = hit_mixed 208 bits powers (lit< tt) c.match.keys6 refl
+returns-6 c = hit_mixed 208 bits powers (lit< tt) c.in-5.is refl
 
-returns-7 : tie.Need-returns-7
+returns-7 : tie.Need-returns-in-6
 unfolding mixed
-returns-7 c = hit_mixed 208 bits powers (lit< tt) c.match.keys7 refl
+returns-7 c = hit_mixed 208 bits powers (lit< tt) c.in-6.is refl
 
-returns-8 : tie.Need-returns-8
+returns-8 : tie.Need-returns-in-7
 unfolding mixed
-returns-8 c = hit_mixed 208 bits powers (lit< tt) c.match.keys8 refl
+returns-8 c = hit_mixed 208 bits powers (lit< tt) c.in-7.is refl
 
-returns-9 : tie.Need-returns-9
+returns-9 : tie.Need-returns-in-8
 unfolding mixed
-returns-9 c = hit_mixed 208 bits powers (lit< tt) c.match.keys9 refl
+returns-9 c = hit_mixed 208 bits powers (lit< tt) c.in-8.is refl
 
-returns-10 : tie.Need-returns-10
+returns-10 : tie.Need-returns-in-9
 unfolding mixed
-returns-10 c = hit_mixed 208 bits powers (lit< tt) c.match.keys10 refl
+returns-10 c = hit_mixed 208 bits powers (lit< tt) c.in-9.is refl
 
-returns-11 : tie.Need-returns-11
+returns-11 : tie.Need-returns-in-10
 unfolding mixed
-returns-11 c = hit_mixed 208 bits powers (lit< tt) c.match.keys11 refl
+returns-11 c = hit_mixed 208 bits powers (lit< tt) c.in-10.is refl
 
-returns-12 : tie.Need-returns-12
+returns-12 : tie.Need-returns-in-11
 unfolding mixed
-returns-12 c = hit_mixed 208 bits powers (lit< tt) c.match.keys12 refl
+returns-12 c = hit_mixed 208 bits powers (lit< tt) c.in-11.is refl
 
-returns-13 : tie.Need-returns-13
+returns-13 : tie.Need-returns-in-12
 unfolding mixed
-returns-13 c = hit_mixed 208 bits powers (lit< tt) c.match.keys13 refl
+returns-13 c = hit_mixed 208 bits powers (lit< tt) c.in-12.is refl
 
-returns-14 : tie.Need-returns-14
+returns-14 : tie.Need-returns-in-13
 unfolding mixed
-returns-14 c = hit_mixed 208 bits powers (lit< tt) c.match.keys14 refl
+returns-14 c = hit_mixed 208 bits powers (lit< tt) c.in-13.is refl
 
-returns-15 : tie.Need-returns-15
+returns-15 : tie.Need-returns-in-14
 unfolding mixed
-returns-15 c = hit_mixed 208 bits powers (lit< tt) c.match.keys15 refl
+returns-15 c = hit_mixed 208 bits powers (lit< tt) c.in-14.is refl
 
-returns-16 : tie.Need-returns-16
+returns-16 : tie.Need-returns-in-15
 unfolding mixed
-returns-16 c = hit_mixed 208 bits powers (lit< tt) c.match.keys16 refl
+returns-16 c = hit_mixed 208 bits powers (lit< tt) c.in-15.is refl
 
-returns-17 : tie.Need-returns-17
+returns-17 : tie.Need-returns-in-16
 unfolding mixed
-returns-17 c = hit_mixed 208 bits powers (lit< tt) c.match.keys17 refl
+returns-17 c = hit_mixed 208 bits powers (lit< tt) c.in-16.is refl
 
-returns-18 : tie.Need-returns-18
+returns-18 : tie.Need-returns-in-17
 unfolding mixed
-returns-18 c = hit_mixed 208 bits powers (lit< tt) c.match.keys18 refl
+returns-18 c = hit_mixed 208 bits powers (lit< tt) c.in-17.is refl
 
-returns-19 : tie.Need-returns-19
+returns-19 : tie.Need-returns-in-18
 unfolding mixed
-returns-19 c = hit_mixed 208 bits powers (lit< tt) c.match.keys19 refl
+returns-19 c = hit_mixed 208 bits powers (lit< tt) c.in-18.is refl
 
-returns-20 : tie.Need-returns-20
+returns-20 : tie.Need-returns-in-19
 unfolding mixed
-returns-20 c = hit_mixed 208 bits powers (lit< tt) c.match.keys20 refl
+returns-20 c = hit_mixed 208 bits powers (lit< tt) c.in-19.is refl
 
-returns-21 : tie.Need-returns-21
+returns-21 : tie.Need-returns-in-20
 unfolding mixed
-returns-21 c = hit_mixed 208 bits powers (lit< tt) c.match.keys21 refl
+returns-21 c = hit_mixed 208 bits powers (lit< tt) c.in-20.is refl
 
-returns-22 : tie.Need-returns-22
+returns-22 : tie.Need-returns-in-21
 unfolding mixed
-returns-22 c = hit_mixed 208 bits powers (lit< tt) c.match.keys22 refl
+returns-22 c = hit_mixed 208 bits powers (lit< tt) c.in-21.is refl
 
-returns-23 : tie.Need-returns-23
+returns-23 : tie.Need-returns-in-22
 unfolding mixed
-returns-23 c = hit_mixed 208 bits powers (lit< tt) c.match.keys23 refl
+returns-23 c = hit_mixed 208 bits powers (lit< tt) c.in-22.is refl
 
-returns-24 : tie.Need-returns-24
+returns-24 : tie.Need-returns-in-23
 unfolding mixed
-returns-24 c = hit_mixed 208 bits powers (lit< tt) c.match.keys24 refl
+returns-24 c = hit_mixed 208 bits powers (lit< tt) c.in-23.is refl
 
-returns-25 : tie.Need-returns-25
+returns-25 : tie.Need-returns-in-24
 unfolding mixed
-returns-25 c = hit_mixed 208 bits powers (lit< tt) c.match.keys25 refl
+returns-25 c = hit_mixed 208 bits powers (lit< tt) c.in-24.is refl
 
-returns-26 : tie.Need-returns-26
+returns-26 : tie.Need-returns-in-25
 unfolding mixed
-returns-26 c = hit_mixed 208 bits powers (lit< tt) c.match.keys26 refl
+returns-26 c = hit_mixed 208 bits powers (lit< tt) c.in-25.is refl
 
-returns-27 : tie.Need-returns-27
+returns-27 : tie.Need-returns-in-26
 unfolding mixed
-returns-27 c = hit_mixed 208 bits powers (lit< tt) c.match.keys27 refl
+returns-27 c = hit_mixed 208 bits powers (lit< tt) c.in-26.is refl
 
-returns-28 : tie.Need-returns-28
+returns-28 : tie.Need-returns-in-27
 unfolding mixed
-returns-28 c = hit_mixed 208 bits powers (lit< tt) c.match.keys28 refl
+returns-28 c = hit_mixed 208 bits powers (lit< tt) c.in-27.is refl
 
-returns-29 : tie.Need-returns-29
+returns-29 : tie.Need-returns-in-28
 unfolding mixed
-returns-29 c = hit_mixed 208 bits powers (lit< tt) c.match.keys29 refl
+returns-29 c = hit_mixed 208 bits powers (lit< tt) c.in-28.is refl
 
-returns-30 : tie.Need-returns-30
+returns-30 : tie.Need-returns-in-29
 unfolding mixed
-returns-30 c = hit_mixed 208 bits powers (lit< tt) c.match.keys30 refl
+returns-30 c = hit_mixed 208 bits powers (lit< tt) c.in-29.is refl
 
-returns-31 : tie.Need-returns-31
+returns-31 : tie.Need-returns-in-30
 unfolding mixed
-returns-31 c = hit_mixed 208 bits powers (lit< tt) c.match.keys31 refl
+returns-31 c = hit_mixed 208 bits powers (lit< tt) c.in-30.is refl
 
-returns-32 : tie.Need-returns-32
+returns-32 : tie.Need-returns-in-31
 unfolding mixed
-returns-32 c = hit_mixed 208 bits powers (lit< tt) c.match.keys32 refl
+returns-32 c = hit_mixed 208 bits powers (lit< tt) c.in-31.is refl
 
-returns-33 : tie.Need-returns-33
+returns-33 : tie.Need-returns-in-32
 unfolding mixed
-returns-33 c = hit_mixed 208 bits powers (lit< tt) c.match.keys33 refl
+returns-33 c = hit_mixed 208 bits powers (lit< tt) c.in-32.is refl
 
-returns-34 : tie.Need-returns-34
+returns-34 : tie.Need-returns-in-33
 unfolding mixed
-returns-34 c = hit_mixed 208 bits powers (lit< tt) c.match.keys34 refl
+returns-34 c = hit_mixed 208 bits powers (lit< tt) c.in-33.is refl
 
-returns-35 : tie.Need-returns-35
+returns-35 : tie.Need-returns-in-34
 unfolding mixed
-returns-35 c = hit_mixed 208 bits powers (lit< tt) c.match.keys35 refl
+returns-35 c = hit_mixed 208 bits powers (lit< tt) c.in-34.is refl
 
-returns-36 : tie.Need-returns-36
+returns-36 : tie.Need-returns-in-35
 unfolding mixed
-returns-36 c = hit_mixed 208 bits powers (lit< tt) c.match.keys36 refl
+returns-36 c = hit_mixed 208 bits powers (lit< tt) c.in-35.is refl
 
-returns-37 : tie.Need-returns-37
+returns-37 : tie.Need-returns-in-36
 unfolding mixed
-returns-37 c = hit_mixed 208 bits powers (lit< tt) c.match.keys37 refl
+returns-37 c = hit_mixed 208 bits powers (lit< tt) c.in-36.is refl
 
-returns-38 : tie.Need-returns-38
+returns-38 : tie.Need-returns-in-37
 unfolding mixed
-returns-38 c = hit_mixed 208 bits powers (lit< tt) c.match.keys38 refl
+returns-38 c = hit_mixed 208 bits powers (lit< tt) c.in-37.is refl
 
-returns-39 : tie.Need-returns-39
+returns-39 : tie.Need-returns-in-38
 unfolding mixed
-returns-39 c = hit_mixed 208 bits powers (lit< tt) c.match.keys39 refl
+returns-39 c = hit_mixed 208 bits powers (lit< tt) c.in-38.is refl
 
-returns-40 : tie.Need-returns-40
+returns-40 : tie.Need-returns-in-39
 unfolding mixed
-returns-40 c = hit_mixed 208 bits powers (lit< tt) c.match.keys40 refl
+returns-40 c = hit_mixed 208 bits powers (lit< tt) c.in-39.is refl
 
-returns-41 : tie.Need-returns-41
+returns-41 : tie.Need-returns-in-40
 unfolding mixed
-returns-41 c = hit_mixed 208 bits powers (lit< tt) c.match.keys41 refl
+returns-41 c = hit_mixed 208 bits powers (lit< tt) c.in-40.is refl
 
-returns-42 : tie.Need-returns-42
+returns-42 : tie.Need-returns-in-41
 unfolding mixed
-returns-42 c = hit_mixed 208 bits powers (lit< tt) c.match.keys42 refl
+returns-42 c = hit_mixed 208 bits powers (lit< tt) c.in-41.is refl
 
-returns-43 : tie.Need-returns-43
+returns-43 : tie.Need-returns-in-42
 unfolding mixed
-returns-43 c = hit_mixed 208 bits powers (lit< tt) c.match.keys43 refl
+returns-43 c = hit_mixed 208 bits powers (lit< tt) c.in-42.is refl
 
-returns-44 : tie.Need-returns-44
+returns-44 : tie.Need-returns-in-43
 unfolding mixed
-returns-44 c = hit_mixed 208 bits powers (lit< tt) c.match.keys44 refl
+returns-44 c = hit_mixed 208 bits powers (lit< tt) c.in-43.is refl
 
-returns-45 : tie.Need-returns-45
+returns-45 : tie.Need-returns-in-44
 unfolding mixed
-returns-45 c = hit_mixed 208 bits powers (lit< tt) c.match.keys45 refl
+returns-45 c = hit_mixed 208 bits powers (lit< tt) c.in-44.is refl
 
-returns-46 : tie.Need-returns-46
+returns-46 : tie.Need-returns-in-45
 unfolding mixed
-returns-46 c = hit_mixed 208 bits powers (lit< tt) c.match.keys46 refl
+returns-46 c = hit_mixed 208 bits powers (lit< tt) c.in-45.is refl
 
-returns-47 : tie.Need-returns-47
+returns-47 : tie.Need-returns-in-46
 unfolding mixed
-returns-47 c = hit_mixed 208 bits powers (lit< tt) c.match.keys47 refl
+returns-47 c = hit_mixed 208 bits powers (lit< tt) c.in-46.is refl
 
-returns-48 : tie.Need-returns-48
+returns-48 : tie.Need-returns-in-47
 unfolding mixed
-returns-48 c = hit_mixed 208 bits powers (lit< tt) c.match.keys48 refl
+returns-48 c = hit_mixed 208 bits powers (lit< tt) c.in-47.is refl
 
-returns-49 : tie.Need-returns-49
+returns-49 : tie.Need-returns-in-48
 unfolding mixed
-returns-49 c = hit_mixed 208 bits powers (lit< tt) c.match.keys49 refl
+returns-49 c = hit_mixed 208 bits powers (lit< tt) c.in-48.is refl
 
-returns-50 : tie.Need-returns-50
+returns-50 : tie.Need-returns-in-49
 unfolding mixed
-returns-50 c = hit_mixed 208 bits powers (lit< tt) c.match.keys50 refl
+returns-50 c = hit_mixed 208 bits powers (lit< tt) c.in-49.is refl
 
-returns-51 : tie.Need-returns-51
+returns-51 : tie.Need-returns-in-50
 unfolding mixed
-returns-51 c = hit_mixed 208 bits powers (lit< tt) c.match.keys51 refl
+returns-51 c = hit_mixed 208 bits powers (lit< tt) c.in-50.is refl
 
-returns-52 : tie.Need-returns-52
+returns-52 : tie.Need-returns-in-51
 unfolding mixed
-returns-52 c = hit_mixed 208 bits powers (lit< tt) c.match.keys52 refl
+returns-52 c = hit_mixed 208 bits powers (lit< tt) c.in-51.is refl
 
-returns-53 : tie.Need-returns-53
+returns-53 : tie.Need-returns-in-52
 unfolding mixed
-returns-53 c = hit_mixed 208 bits powers (lit< tt) c.match.keys53 refl
+returns-53 c = hit_mixed 208 bits powers (lit< tt) c.in-52.is refl
 
-returns-54 : tie.Need-returns-54
+returns-54 : tie.Need-returns-in-53
 unfolding mixed
-returns-54 c = hit_mixed 208 bits powers (lit< tt) c.match.keys54 refl
+returns-54 c = hit_mixed 208 bits powers (lit< tt) c.in-53.is refl
 
-returns-55 : tie.Need-returns-55
+returns-55 : tie.Need-returns-in-54
 unfolding mixed
-returns-55 c = hit_mixed 208 bits powers (lit< tt) c.match.keys55 refl
+returns-55 c = hit_mixed 208 bits powers (lit< tt) c.in-54.is refl
 
-returns-56 : tie.Need-returns-56
+returns-56 : tie.Need-returns-in-55
 unfolding mixed
-returns-56 c = hit_mixed 208 bits powers (lit< tt) c.match.keys56 refl
+returns-56 c = hit_mixed 208 bits powers (lit< tt) c.in-55.is refl
 
-returns-57 : tie.Need-returns-57
+returns-57 : tie.Need-returns-in-56
 unfolding mixed
-returns-57 c = hit_mixed 208 bits powers (lit< tt) c.match.keys57 refl
+returns-57 c = hit_mixed 208 bits powers (lit< tt) c.in-56.is refl
 
-returns-58 : tie.Need-returns-58
+returns-58 : tie.Need-returns-in-57
 unfolding mixed
-returns-58 c = hit_mixed 208 bits powers (lit< tt) c.match.keys58 refl
+returns-58 c = hit_mixed 208 bits powers (lit< tt) c.in-57.is refl
 
-returns-59 : tie.Need-returns-59
+returns-59 : tie.Need-returns-in-58
 unfolding mixed
-returns-59 c = hit_mixed 208 bits powers (lit< tt) c.match.keys59 refl
+returns-59 c = hit_mixed 208 bits powers (lit< tt) c.in-58.is refl
 
-returns-60 : tie.Need-returns-60
+returns-60 : tie.Need-returns-in-59
 unfolding mixed
-returns-60 c = hit_mixed 208 bits powers (lit< tt) c.match.keys60 refl
+returns-60 c = hit_mixed 208 bits powers (lit< tt) c.in-59.is refl
 
-returns-61 : tie.Need-returns-61
+returns-61 : tie.Need-returns-in-60
 unfolding mixed
-returns-61 c = hit_mixed 208 bits powers (lit< tt) c.match.keys61 refl
+returns-61 c = hit_mixed 208 bits powers (lit< tt) c.in-60.is refl
 
-returns-62 : tie.Need-returns-62
+returns-62 : tie.Need-returns-in-61
 unfolding mixed
-returns-62 c = hit_mixed 208 bits powers (lit< tt) c.match.keys62 refl
+returns-62 c = hit_mixed 208 bits powers (lit< tt) c.in-61.is refl
 
-returns-63 : tie.Need-returns-63
+returns-63 : tie.Need-returns-in-62
 unfolding mixed
-returns-63 c = hit_mixed 208 bits powers (lit< tt) c.match.keys63 refl
+returns-63 c = hit_mixed 208 bits powers (lit< tt) c.in-62.is refl
 
-returns-64 : tie.Need-returns-64
+returns-64 : tie.Need-returns-in-63
 unfolding mixed
-returns-64 c = hit_mixed 208 bits powers (lit< tt) c.match.keys64 refl
+returns-64 c = hit_mixed 208 bits powers (lit< tt) c.in-63.is refl
 
-returns-65 : tie.Need-returns-65
+returns-65 : tie.Need-returns-in-64
 unfolding mixed
-returns-65 c = hit_mixed 208 bits powers (lit< tt) c.match.keys65 refl
+returns-65 c = hit_mixed 208 bits powers (lit< tt) c.in-64.is refl
 
-returns-66 : tie.Need-returns-66
+returns-66 : tie.Need-returns-in-65
 unfolding mixed
-returns-66 c = hit_mixed 208 bits powers (lit< tt) c.match.keys66 refl
+returns-66 c = hit_mixed 208 bits powers (lit< tt) c.in-65.is refl
 
-returns-67 : tie.Need-returns-67
+returns-67 : tie.Need-returns-in-66
 unfolding mixed
-returns-67 c = hit_mixed 208 bits powers (lit< tt) c.match.keys67 refl
+returns-67 c = hit_mixed 208 bits powers (lit< tt) c.in-66.is refl
 
-returns-68 : tie.Need-returns-68
+returns-68 : tie.Need-returns-in-67
 unfolding mixed
-returns-68 c = hit_mixed 208 bits powers (lit< tt) c.match.keys68 refl
+returns-68 c = hit_mixed 208 bits powers (lit< tt) c.in-67.is refl
 
-returns-69 : tie.Need-returns-69
+returns-69 : tie.Need-returns-in-68
 unfolding mixed
-returns-69 c = hit_mixed 208 bits powers (lit< tt) c.match.keys69 refl
+returns-69 c = hit_mixed 208 bits powers (lit< tt) c.in-68.is refl
 
-returns-70 : tie.Need-returns-70
+returns-70 : tie.Need-returns-in-69
 unfolding mixed
-returns-70 c = hit_mixed 208 bits powers (lit< tt) c.match.keys70 refl
+returns-70 c = hit_mixed 208 bits powers (lit< tt) c.in-69.is refl
 
-returns-71 : tie.Need-returns-71
+returns-71 : tie.Need-returns-in-70
 unfolding mixed
-returns-71 c = hit_mixed 208 bits powers (lit< tt) c.match.keys71 refl
+returns-71 c = hit_mixed 208 bits powers (lit< tt) c.in-70.is refl
 
-returns-72 : tie.Need-returns-72
+returns-72 : tie.Need-returns-in-71
 unfolding mixed
-returns-72 c = hit_mixed 208 bits powers (lit< tt) c.match.keys72 refl
+returns-72 c = hit_mixed 208 bits powers (lit< tt) c.in-71.is refl
 
-returns-73 : tie.Need-returns-73
+returns-73 : tie.Need-returns-in-72
 unfolding mixed
-returns-73 c = hit_mixed 208 bits powers (lit< tt) c.match.keys73 refl
+returns-73 c = hit_mixed 208 bits powers (lit< tt) c.in-72.is refl
 
-returns-74 : tie.Need-returns-74
+returns-74 : tie.Need-returns-in-73
 unfolding mixed
-returns-74 c = hit_mixed 208 bits powers (lit< tt) c.match.keys74 refl
+returns-74 c = hit_mixed 208 bits powers (lit< tt) c.in-73.is refl
 
-returns-75 : tie.Need-returns-75
+returns-75 : tie.Need-returns-in-74
 unfolding mixed
-returns-75 c = hit_mixed 208 bits powers (lit< tt) c.match.keys75 refl
+returns-75 c = hit_mixed 208 bits powers (lit< tt) c.in-74.is refl
 
-returns-76 : tie.Need-returns-76
+returns-76 : tie.Need-returns-in-75
 unfolding mixed
-returns-76 c = hit_mixed 208 bits powers (lit< tt) c.match.keys76 refl
+returns-76 c = hit_mixed 208 bits powers (lit< tt) c.in-75.is refl
 
-returns-77 : tie.Need-returns-77
+returns-77 : tie.Need-returns-in-76
 unfolding mixed
-returns-77 c = hit_mixed 208 bits powers (lit< tt) c.match.keys77 refl
+returns-77 c = hit_mixed 208 bits powers (lit< tt) c.in-76.is refl
 
-returns-78 : tie.Need-returns-78
+returns-78 : tie.Need-returns-in-77
 unfolding mixed
-returns-78 c = hit_mixed 208 bits powers (lit< tt) c.match.keys78 refl
+returns-78 c = hit_mixed 208 bits powers (lit< tt) c.in-77.is refl
 
-returns-79 : tie.Need-returns-79
+returns-79 : tie.Need-returns-in-78
 unfolding mixed
-returns-79 c = hit_mixed 208 bits powers (lit< tt) c.match.keys79 refl
+returns-79 c = hit_mixed 208 bits powers (lit< tt) c.in-78.is refl
 
-returns-80 : tie.Need-returns-80
+returns-80 : tie.Need-returns-in-79
 unfolding mixed
-returns-80 c = hit_mixed 208 bits powers (lit< tt) c.match.keys80 refl
+returns-80 c = hit_mixed 208 bits powers (lit< tt) c.in-79.is refl
 
-returns-81 : tie.Need-returns-81
+returns-81 : tie.Need-returns-in-80
 unfolding mixed
-returns-81 c = hit_mixed 208 bits powers (lit< tt) c.match.keys81 refl
+returns-81 c = hit_mixed 208 bits powers (lit< tt) c.in-80.is refl
 
-returns-82 : tie.Need-returns-82
+returns-82 : tie.Need-returns-in-81
 unfolding mixed
-returns-82 c = hit_mixed 208 bits powers (lit< tt) c.match.keys82 refl
+returns-82 c = hit_mixed 208 bits powers (lit< tt) c.in-81.is refl
 
-returns-83 : tie.Need-returns-83
+returns-83 : tie.Need-returns-in-82
 unfolding mixed
-returns-83 c = hit_mixed 208 bits powers (lit< tt) c.match.keys83 refl
+returns-83 c = hit_mixed 208 bits powers (lit< tt) c.in-82.is refl
 
-returns-84 : tie.Need-returns-84
+returns-84 : tie.Need-returns-in-83
 unfolding mixed
-returns-84 c = hit_mixed 208 bits powers (lit< tt) c.match.keys84 refl
+returns-84 c = hit_mixed 208 bits powers (lit< tt) c.in-83.is refl
 
-returns-85 : tie.Need-returns-85
+returns-85 : tie.Need-returns-in-84
 unfolding mixed
-returns-85 c = hit_mixed 208 bits powers (lit< tt) c.match.keys85 refl
+returns-85 c = hit_mixed 208 bits powers (lit< tt) c.in-84.is refl
 
-returns-86 : tie.Need-returns-86
+returns-86 : tie.Need-returns-in-85
 unfolding mixed
-returns-86 c = hit_mixed 208 bits powers (lit< tt) c.match.keys86 refl
+returns-86 c = hit_mixed 208 bits powers (lit< tt) c.in-85.is refl
 
-returns-87 : tie.Need-returns-87
+returns-87 : tie.Need-returns-in-86
 unfolding mixed
-returns-87 c = hit_mixed 208 bits powers (lit< tt) c.match.keys87 refl
+returns-87 c = hit_mixed 208 bits powers (lit< tt) c.in-86.is refl
 
-returns-88 : tie.Need-returns-88
+returns-88 : tie.Need-returns-in-87
 unfolding mixed
-returns-88 c = hit_mixed 208 bits powers (lit< tt) c.match.keys88 refl
+returns-88 c = hit_mixed 208 bits powers (lit< tt) c.in-87.is refl
 
-returns-89 : tie.Need-returns-89
+returns-89 : tie.Need-returns-in-88
 unfolding mixed
-returns-89 c = hit_mixed 208 bits powers (lit< tt) c.match.keys89 refl
+returns-89 c = hit_mixed 208 bits powers (lit< tt) c.in-88.is refl
 
-returns-90 : tie.Need-returns-90
+returns-90 : tie.Need-returns-in-89
 unfolding mixed
-returns-90 c = hit_mixed 208 bits powers (lit< tt) c.match.keys90 refl
+returns-90 c = hit_mixed 208 bits powers (lit< tt) c.in-89.is refl
 
-returns-91 : tie.Need-returns-91
+returns-91 : tie.Need-returns-in-90
 unfolding mixed
-returns-91 c = hit_mixed 208 bits powers (lit< tt) c.match.keys91 refl
+returns-91 c = hit_mixed 208 bits powers (lit< tt) c.in-90.is refl
 
-returns-92 : tie.Need-returns-92
+returns-92 : tie.Need-returns-in-91
 unfolding mixed
-returns-92 c = hit_mixed 208 bits powers (lit< tt) c.match.keys92 refl
+returns-92 c = hit_mixed 208 bits powers (lit< tt) c.in-91.is refl
 
-returns-93 : tie.Need-returns-93
+returns-93 : tie.Need-returns-in-92
 unfolding mixed
-returns-93 c = hit_mixed 208 bits powers (lit< tt) c.match.keys93 refl
+returns-93 c = hit_mixed 208 bits powers (lit< tt) c.in-92.is refl
 
-returns-94 : tie.Need-returns-94
+returns-94 : tie.Need-returns-in-93
 unfolding mixed
-returns-94 c = hit_mixed 208 bits powers (lit< tt) c.match.keys94 refl
+returns-94 c = hit_mixed 208 bits powers (lit< tt) c.in-93.is refl
 
-returns-95 : tie.Need-returns-95
+returns-95 : tie.Need-returns-in-94
 unfolding mixed
-returns-95 c = hit_mixed 208 bits powers (lit< tt) c.match.keys95 refl
+returns-95 c = hit_mixed 208 bits powers (lit< tt) c.in-94.is refl
 
-returns-96 : tie.Need-returns-96
+returns-96 : tie.Need-returns-in-95
 unfolding mixed
-returns-96 c = hit_mixed 208 bits powers (lit< tt) c.match.keys96 refl
+returns-96 c = hit_mixed 208 bits powers (lit< tt) c.in-95.is refl
 
-returns-97 : tie.Need-returns-97
+returns-97 : tie.Need-returns-in-96
 unfolding mixed
-returns-97 c = hit_mixed 208 bits powers (lit< tt) c.match.keys97 refl
+returns-97 c = hit_mixed 208 bits powers (lit< tt) c.in-96.is refl
 
-returns-98 : tie.Need-returns-98
+returns-98 : tie.Need-returns-in-97
 unfolding mixed
-returns-98 c = hit_mixed 208 bits powers (lit< tt) c.match.keys98 refl
+returns-98 c = hit_mixed 208 bits powers (lit< tt) c.in-97.is refl
 
-returns-99 : tie.Need-returns-99
+returns-99 : tie.Need-returns-in-98
 unfolding mixed
-returns-99 c = hit_mixed 208 bits powers (lit< tt) c.match.keys99 refl
+returns-99 c = hit_mixed 208 bits powers (lit< tt) c.in-98.is refl
 
-returns-100 : tie.Need-returns-100
+returns-100 : tie.Need-returns-in-99
 unfolding mixed
-returns-100 c = hit_mixed 208 bits powers (lit< tt) c.match.keys100 refl
+returns-100 c = hit_mixed 208 bits powers (lit< tt) c.in-99.is refl
 
-returns-101 : tie.Need-returns-101
+returns-101 : tie.Need-returns-in-100
 unfolding mixed
-returns-101 c = hit_mixed 208 bits powers (lit< tt) c.match.keys101 refl
+returns-101 c = hit_mixed 208 bits powers (lit< tt) c.in-100.is refl
 
-returns-102 : tie.Need-returns-102
+returns-102 : tie.Need-returns-in-101
 unfolding mixed
-returns-102 c = hit_mixed 208 bits powers (lit< tt) c.match.keys102 refl
+returns-102 c = hit_mixed 208 bits powers (lit< tt) c.in-101.is refl
 
-returns-103 : tie.Need-returns-103
+returns-103 : tie.Need-returns-in-102
 unfolding mixed
-returns-103 c = hit_mixed 208 bits powers (lit< tt) c.match.keys103 refl
+returns-103 c = hit_mixed 208 bits powers (lit< tt) c.in-102.is refl
 
-returns-104 : tie.Need-returns-104
+returns-104 : tie.Need-returns-in-103
 unfolding mixed
-returns-104 c = hit_mixed 208 bits powers (lit< tt) c.match.keys104 refl
+returns-104 c = hit_mixed 208 bits powers (lit< tt) c.in-103.is refl
 
-returns-105 : tie.Need-returns-105
+returns-105 : tie.Need-returns-in-104
 unfolding mixed
-returns-105 c = hit_mixed 208 bits powers (lit< tt) c.match.keys105 refl
+returns-105 c = hit_mixed 208 bits powers (lit< tt) c.in-104.is refl
 
-returns-106 : tie.Need-returns-106
+returns-106 : tie.Need-returns-in-105
 unfolding mixed
-returns-106 c = hit_mixed 208 bits powers (lit< tt) c.match.keys106 refl
+returns-106 c = hit_mixed 208 bits powers (lit< tt) c.in-105.is refl
 
-returns-107 : tie.Need-returns-107
+returns-107 : tie.Need-returns-in-106
 unfolding mixed
-returns-107 c = hit_mixed 208 bits powers (lit< tt) c.match.keys107 refl
+returns-107 c = hit_mixed 208 bits powers (lit< tt) c.in-106.is refl
 
-returns-108 : tie.Need-returns-108
+returns-108 : tie.Need-returns-in-107
 unfolding mixed
-returns-108 c = hit_mixed 208 bits powers (lit< tt) c.match.keys108 refl
+returns-108 c = hit_mixed 208 bits powers (lit< tt) c.in-107.is refl
 
-returns-109 : tie.Need-returns-109
+returns-109 : tie.Need-returns-in-108
 unfolding mixed
-returns-109 c = hit_mixed 208 bits powers (lit< tt) c.match.keys109 refl
+returns-109 c = hit_mixed 208 bits powers (lit< tt) c.in-108.is refl
 
-returns-110 : tie.Need-returns-110
+returns-110 : tie.Need-returns-in-109
 unfolding mixed
-returns-110 c = hit_mixed 208 bits powers (lit< tt) c.match.keys110 refl
+returns-110 c = hit_mixed 208 bits powers (lit< tt) c.in-109.is refl
 
-returns-111 : tie.Need-returns-111
+returns-111 : tie.Need-returns-in-110
 unfolding mixed
-returns-111 c = hit_mixed 208 bits powers (lit< tt) c.match.keys111 refl
+returns-111 c = hit_mixed 208 bits powers (lit< tt) c.in-110.is refl
 
-returns-112 : tie.Need-returns-112
+returns-112 : tie.Need-returns-in-111
 unfolding mixed
-returns-112 c = hit_mixed 208 bits powers (lit< tt) c.match.keys112 refl
+returns-112 c = hit_mixed 208 bits powers (lit< tt) c.in-111.is refl
 
-returns-113 : tie.Need-returns-113
+returns-113 : tie.Need-returns-in-112
 unfolding mixed
-returns-113 c = hit_mixed 208 bits powers (lit< tt) c.match.keys113 refl
+returns-113 c = hit_mixed 208 bits powers (lit< tt) c.in-112.is refl
 
-returns-114 : tie.Need-returns-114
+returns-114 : tie.Need-returns-in-113
 unfolding mixed
-returns-114 c = hit_mixed 208 bits powers (lit< tt) c.match.keys114 refl
+returns-114 c = hit_mixed 208 bits powers (lit< tt) c.in-113.is refl
 
-returns-115 : tie.Need-returns-115
+returns-115 : tie.Need-returns-in-114
 unfolding mixed
-returns-115 c = hit_mixed 208 bits powers (lit< tt) c.match.keys115 refl
+returns-115 c = hit_mixed 208 bits powers (lit< tt) c.in-114.is refl
 
-returns-116 : tie.Need-returns-116
+returns-116 : tie.Need-returns-in-115
 unfolding mixed
-returns-116 c = hit_mixed 208 bits powers (lit< tt) c.match.keys116 refl
+returns-116 c = hit_mixed 208 bits powers (lit< tt) c.in-115.is refl
 
-returns-117 : tie.Need-returns-117
+returns-117 : tie.Need-returns-in-116
 unfolding mixed
-returns-117 c = hit_mixed 208 bits powers (lit< tt) c.match.keys117 refl
+returns-117 c = hit_mixed 208 bits powers (lit< tt) c.in-116.is refl
 
-returns-118 : tie.Need-returns-118
+returns-118 : tie.Need-returns-in-117
 unfolding mixed
-returns-118 c = hit_mixed 208 bits powers (lit< tt) c.match.keys118 refl
+returns-118 c = hit_mixed 208 bits powers (lit< tt) c.in-117.is refl
 
-returns-119 : tie.Need-returns-119
+returns-119 : tie.Need-returns-in-118
 unfolding mixed
-returns-119 c = hit_mixed 208 bits powers (lit< tt) c.match.keys119 refl
+returns-119 c = hit_mixed 208 bits powers (lit< tt) c.in-118.is refl
 
-returns-120 : tie.Need-returns-120
+returns-120 : tie.Need-returns-in-119
 unfolding mixed
-returns-120 c = hit_mixed 208 bits powers (lit< tt) c.match.keys120 refl
+returns-120 c = hit_mixed 208 bits powers (lit< tt) c.in-119.is refl
 
-returns-121 : tie.Need-returns-121
+returns-121 : tie.Need-returns-in-120
 unfolding mixed
-returns-121 c = hit_mixed 208 bits powers (lit< tt) c.match.keys121 refl
+returns-121 c = hit_mixed 208 bits powers (lit< tt) c.in-120.is refl
 
-returns-122 : tie.Need-returns-122
+returns-122 : tie.Need-returns-in-121
 unfolding mixed
-returns-122 c = hit_mixed 208 bits powers (lit< tt) c.match.keys122 refl
+returns-122 c = hit_mixed 208 bits powers (lit< tt) c.in-121.is refl
 
-returns-123 : tie.Need-returns-123
+returns-123 : tie.Need-returns-in-122
 unfolding mixed
-returns-123 c = hit_mixed 208 bits powers (lit< tt) c.match.keys123 refl
+returns-123 c = hit_mixed 208 bits powers (lit< tt) c.in-122.is refl
 
-returns-124 : tie.Need-returns-124
+returns-124 : tie.Need-returns-in-123
 unfolding mixed
-returns-124 c = hit_mixed 208 bits powers (lit< tt) c.match.keys124 refl
+returns-124 c = hit_mixed 208 bits powers (lit< tt) c.in-123.is refl
 
-returns-125 : tie.Need-returns-125
+returns-125 : tie.Need-returns-in-124
 unfolding mixed
-returns-125 c = hit_mixed 208 bits powers (lit< tt) c.match.keys125 refl
+returns-125 c = hit_mixed 208 bits powers (lit< tt) c.in-124.is refl
 
-returns-126 : tie.Need-returns-126
+returns-126 : tie.Need-returns-in-125
 unfolding mixed
-returns-126 c = hit_mixed 208 bits powers (lit< tt) c.match.keys126 refl
+returns-126 c = hit_mixed 208 bits powers (lit< tt) c.in-125.is refl
 
-returns-127 : tie.Need-returns-127
+returns-127 : tie.Need-returns-in-126
 unfolding mixed
-returns-127 c = hit_mixed 208 bits powers (lit< tt) c.match.keys127 refl
+returns-127 c = hit_mixed 208 bits powers (lit< tt) c.in-126.is refl
 
-returns-128 : tie.Need-returns-128
+returns-128 : tie.Need-returns-in-127
 unfolding mixed
-returns-128 c = hit_mixed 208 bits powers (lit< tt) c.match.keys128 refl
+returns-128 c = hit_mixed 208 bits powers (lit< tt) c.in-127.is refl
 
-returns-129 : tie.Need-returns-129
+returns-129 : tie.Need-returns-in-128
 unfolding mixed
-returns-129 c = hit_mixed 208 bits powers (lit< tt) c.match.keys129 refl
+returns-129 c = hit_mixed 208 bits powers (lit< tt) c.in-128.is refl
 
-returns-130 : tie.Need-returns-130
+returns-130 : tie.Need-returns-in-129
 unfolding mixed
-returns-130 c = hit_mixed 208 bits powers (lit< tt) c.match.keys130 refl
+returns-130 c = hit_mixed 208 bits powers (lit< tt) c.in-129.is refl
 
-returns-131 : tie.Need-returns-131
+returns-131 : tie.Need-returns-in-130
 unfolding mixed
-returns-131 c = hit_mixed 208 bits powers (lit< tt) c.match.keys131 refl
+returns-131 c = hit_mixed 208 bits powers (lit< tt) c.in-130.is refl
 
-returns-132 : tie.Need-returns-132
+returns-132 : tie.Need-returns-in-131
 unfolding mixed
-returns-132 c = hit_mixed 208 bits powers (lit< tt) c.match.keys132 refl
+returns-132 c = hit_mixed 208 bits powers (lit< tt) c.in-131.is refl
 
-returns-133 : tie.Need-returns-133
+returns-133 : tie.Need-returns-in-132
 unfolding mixed
-returns-133 c = hit_mixed 208 bits powers (lit< tt) c.match.keys133 refl
+returns-133 c = hit_mixed 208 bits powers (lit< tt) c.in-132.is refl
 
-returns-134 : tie.Need-returns-134
+returns-134 : tie.Need-returns-in-133
 unfolding mixed
-returns-134 c = hit_mixed 208 bits powers (lit< tt) c.match.keys134 refl
+returns-134 c = hit_mixed 208 bits powers (lit< tt) c.in-133.is refl
 
-returns-135 : tie.Need-returns-135
+returns-135 : tie.Need-returns-in-134
 unfolding mixed
-returns-135 c = hit_mixed 208 bits powers (lit< tt) c.match.keys135 refl
+returns-135 c = hit_mixed 208 bits powers (lit< tt) c.in-134.is refl
 
-returns-136 : tie.Need-returns-136
+returns-136 : tie.Need-returns-in-135
 unfolding mixed
-returns-136 c = hit_mixed 208 bits powers (lit< tt) c.match.keys136 refl
+returns-136 c = hit_mixed 208 bits powers (lit< tt) c.in-135.is refl
 
-returns-137 : tie.Need-returns-137
+returns-137 : tie.Need-returns-in-136
 unfolding mixed
-returns-137 c = hit_mixed 208 bits powers (lit< tt) c.match.keys137 refl
+returns-137 c = hit_mixed 208 bits powers (lit< tt) c.in-136.is refl
 
-returns-138 : tie.Need-returns-138
+returns-138 : tie.Need-returns-in-137
 unfolding mixed
-returns-138 c = hit_mixed 208 bits powers (lit< tt) c.match.keys138 refl
+returns-138 c = hit_mixed 208 bits powers (lit< tt) c.in-137.is refl
 
-returns-139 : tie.Need-returns-139
+returns-139 : tie.Need-returns-in-138
 unfolding mixed
-returns-139 c = hit_mixed 208 bits powers (lit< tt) c.match.keys139 refl
+returns-139 c = hit_mixed 208 bits powers (lit< tt) c.in-138.is refl
 
-returns-140 : tie.Need-returns-140
+returns-140 : tie.Need-returns-in-139
 unfolding mixed
-returns-140 c = hit_mixed 208 bits powers (lit< tt) c.match.keys140 refl
+returns-140 c = hit_mixed 208 bits powers (lit< tt) c.in-139.is refl
 
-returns-141 : tie.Need-returns-141
+returns-141 : tie.Need-returns-in-140
 unfolding mixed
-returns-141 c = hit_mixed 208 bits powers (lit< tt) c.match.keys141 refl
+returns-141 c = hit_mixed 208 bits powers (lit< tt) c.in-140.is refl
 
-returns-142 : tie.Need-returns-142
+returns-142 : tie.Need-returns-in-141
 unfolding mixed
-returns-142 c = hit_mixed 208 bits powers (lit< tt) c.match.keys142 refl
+returns-142 c = hit_mixed 208 bits powers (lit< tt) c.in-141.is refl
 
-returns-143 : tie.Need-returns-143
+returns-143 : tie.Need-returns-in-142
 unfolding mixed
-returns-143 c = hit_mixed 208 bits powers (lit< tt) c.match.keys143 refl
+returns-143 c = hit_mixed 208 bits powers (lit< tt) c.in-142.is refl
 
-returns-144 : tie.Need-returns-144
+returns-144 : tie.Need-returns-in-143
 unfolding mixed
-returns-144 c = hit_mixed 208 bits powers (lit< tt) c.match.keys144 refl
+returns-144 c = hit_mixed 208 bits powers (lit< tt) c.in-143.is refl
 
-returns-145 : tie.Need-returns-145
+returns-145 : tie.Need-returns-in-144
 unfolding mixed
-returns-145 c = hit_mixed 208 bits powers (lit< tt) c.match.keys145 refl
+returns-145 c = hit_mixed 208 bits powers (lit< tt) c.in-144.is refl
 
-returns-146 : tie.Need-returns-146
+returns-146 : tie.Need-returns-in-145
 unfolding mixed
-returns-146 c = hit_mixed 208 bits powers (lit< tt) c.match.keys146 refl
+returns-146 c = hit_mixed 208 bits powers (lit< tt) c.in-145.is refl
 
-returns-147 : tie.Need-returns-147
+returns-147 : tie.Need-returns-in-146
 unfolding mixed
-returns-147 c = hit_mixed 208 bits powers (lit< tt) c.match.keys147 refl
+returns-147 c = hit_mixed 208 bits powers (lit< tt) c.in-146.is refl
 
-returns-148 : tie.Need-returns-148
+returns-148 : tie.Need-returns-in-147
 unfolding mixed
-returns-148 c = hit_mixed 208 bits powers (lit< tt) c.match.keys148 refl
+returns-148 c = hit_mixed 208 bits powers (lit< tt) c.in-147.is refl
 
-returns-149 : tie.Need-returns-149
+returns-149 : tie.Need-returns-in-148
 unfolding mixed
-returns-149 c = hit_mixed 208 bits powers (lit< tt) c.match.keys149 refl
+returns-149 c = hit_mixed 208 bits powers (lit< tt) c.in-148.is refl
 
-returns-150 : tie.Need-returns-150
+returns-150 : tie.Need-returns-in-149
 unfolding mixed
-returns-150 c = hit_mixed 208 bits powers (lit< tt) c.match.keys150 refl
+returns-150 c = hit_mixed 208 bits powers (lit< tt) c.in-149.is refl
 
-returns-151 : tie.Need-returns-151
+returns-151 : tie.Need-returns-in-150
 unfolding mixed
-returns-151 c = hit_mixed 208 bits powers (lit< tt) c.match.keys151 refl
+returns-151 c = hit_mixed 208 bits powers (lit< tt) c.in-150.is refl
 
-returns-152 : tie.Need-returns-152
+returns-152 : tie.Need-returns-in-151
 unfolding mixed
-returns-152 c = hit_mixed 208 bits powers (lit< tt) c.match.keys152 refl
+returns-152 c = hit_mixed 208 bits powers (lit< tt) c.in-151.is refl
 
-returns-153 : tie.Need-returns-153
+returns-153 : tie.Need-returns-in-152
 unfolding mixed
-returns-153 c = hit_mixed 208 bits powers (lit< tt) c.match.keys153 refl
+returns-153 c = hit_mixed 208 bits powers (lit< tt) c.in-152.is refl
 
-returns-154 : tie.Need-returns-154
+returns-154 : tie.Need-returns-in-153
 unfolding mixed
-returns-154 c = hit_mixed 208 bits powers (lit< tt) c.match.keys154 refl
+returns-154 c = hit_mixed 208 bits powers (lit< tt) c.in-153.is refl
 
-returns-155 : tie.Need-returns-155
+returns-155 : tie.Need-returns-in-154
 unfolding mixed
-returns-155 c = hit_mixed 208 bits powers (lit< tt) c.match.keys155 refl
+returns-155 c = hit_mixed 208 bits powers (lit< tt) c.in-154.is refl
 
-returns-156 : tie.Need-returns-156
+returns-156 : tie.Need-returns-in-155
 unfolding mixed
-returns-156 c = hit_mixed 208 bits powers (lit< tt) c.match.keys156 refl
+returns-156 c = hit_mixed 208 bits powers (lit< tt) c.in-155.is refl
 
-returns-157 : tie.Need-returns-157
+returns-157 : tie.Need-returns-in-156
 unfolding mixed
-returns-157 c = hit_mixed 208 bits powers (lit< tt) c.match.keys157 refl
+returns-157 c = hit_mixed 208 bits powers (lit< tt) c.in-156.is refl
 
-returns-158 : tie.Need-returns-158
+returns-158 : tie.Need-returns-in-157
 unfolding mixed
-returns-158 c = hit_mixed 208 bits powers (lit< tt) c.match.keys158 refl
+returns-158 c = hit_mixed 208 bits powers (lit< tt) c.in-157.is refl
 
-returns-159 : tie.Need-returns-159
+returns-159 : tie.Need-returns-in-158
 unfolding mixed
-returns-159 c = hit_mixed 208 bits powers (lit< tt) c.match.keys159 refl
+returns-159 c = hit_mixed 208 bits powers (lit< tt) c.in-158.is refl
 
-returns-160 : tie.Need-returns-160
+returns-160 : tie.Need-returns-in-159
 unfolding mixed
-returns-160 c = hit_mixed 208 bits powers (lit< tt) c.match.keys160 refl
+returns-160 c = hit_mixed 208 bits powers (lit< tt) c.in-159.is refl
 
-returns-161 : tie.Need-returns-161
+returns-161 : tie.Need-returns-in-160
 unfolding mixed
-returns-161 c = hit_mixed 208 bits powers (lit< tt) c.match.keys161 refl
+returns-161 c = hit_mixed 208 bits powers (lit< tt) c.in-160.is refl
 
-returns-162 : tie.Need-returns-162
+returns-162 : tie.Need-returns-in-161
 unfolding mixed
-returns-162 c = hit_mixed 208 bits powers (lit< tt) c.match.keys162 refl
+returns-162 c = hit_mixed 208 bits powers (lit< tt) c.in-161.is refl
 
-returns-163 : tie.Need-returns-163
+returns-163 : tie.Need-returns-in-162
 unfolding mixed
-returns-163 c = hit_mixed 208 bits powers (lit< tt) c.match.keys163 refl
+returns-163 c = hit_mixed 208 bits powers (lit< tt) c.in-162.is refl
 
-returns-164 : tie.Need-returns-164
+returns-164 : tie.Need-returns-in-163
 unfolding mixed
-returns-164 c = hit_mixed 208 bits powers (lit< tt) c.match.keys164 refl
+returns-164 c = hit_mixed 208 bits powers (lit< tt) c.in-163.is refl
 
-returns-165 : tie.Need-returns-165
+returns-165 : tie.Need-returns-in-164
 unfolding mixed
-returns-165 c = hit_mixed 208 bits powers (lit< tt) c.match.keys165 refl
+returns-165 c = hit_mixed 208 bits powers (lit< tt) c.in-164.is refl
 
-returns-166 : tie.Need-returns-166
+returns-166 : tie.Need-returns-in-165
 unfolding mixed
-returns-166 c = hit_mixed 208 bits powers (lit< tt) c.match.keys166 refl
+returns-166 c = hit_mixed 208 bits powers (lit< tt) c.in-165.is refl
 
-returns-167 : tie.Need-returns-167
+returns-167 : tie.Need-returns-in-166
 unfolding mixed
-returns-167 c = hit_mixed 208 bits powers (lit< tt) c.match.keys167 refl
+returns-167 c = hit_mixed 208 bits powers (lit< tt) c.in-166.is refl
 
-returns-168 : tie.Need-returns-168
+returns-168 : tie.Need-returns-in-167
 unfolding mixed
-returns-168 c = hit_mixed 208 bits powers (lit< tt) c.match.keys168 refl
+returns-168 c = hit_mixed 208 bits powers (lit< tt) c.in-167.is refl
 
-returns-169 : tie.Need-returns-169
+returns-169 : tie.Need-returns-in-168
 unfolding mixed
-returns-169 c = hit_mixed 208 bits powers (lit< tt) c.match.keys169 refl
+returns-169 c = hit_mixed 208 bits powers (lit< tt) c.in-168.is refl
 
-returns-170 : tie.Need-returns-170
+returns-170 : tie.Need-returns-in-169
 unfolding mixed
-returns-170 c = hit_mixed 208 bits powers (lit< tt) c.match.keys170 refl
+returns-170 c = hit_mixed 208 bits powers (lit< tt) c.in-169.is refl
 
-returns-171 : tie.Need-returns-171
+returns-171 : tie.Need-returns-in-170
 unfolding mixed
-returns-171 c = hit_mixed 208 bits powers (lit< tt) c.match.keys171 refl
+returns-171 c = hit_mixed 208 bits powers (lit< tt) c.in-170.is refl
 
-returns-172 : tie.Need-returns-172
+returns-172 : tie.Need-returns-in-171
 unfolding mixed
-returns-172 c = hit_mixed 208 bits powers (lit< tt) c.match.keys172 refl
+returns-172 c = hit_mixed 208 bits powers (lit< tt) c.in-171.is refl
 
-returns-173 : tie.Need-returns-173
+returns-173 : tie.Need-returns-in-172
 unfolding mixed
-returns-173 c = hit_mixed 208 bits powers (lit< tt) c.match.keys173 refl
+returns-173 c = hit_mixed 208 bits powers (lit< tt) c.in-172.is refl
 
-returns-174 : tie.Need-returns-174
+returns-174 : tie.Need-returns-in-173
 unfolding mixed
-returns-174 c = hit_mixed 208 bits powers (lit< tt) c.match.keys174 refl
+returns-174 c = hit_mixed 208 bits powers (lit< tt) c.in-173.is refl
 
-returns-175 : tie.Need-returns-175
+returns-175 : tie.Need-returns-in-174
 unfolding mixed
-returns-175 c = hit_mixed 208 bits powers (lit< tt) c.match.keys175 refl
+returns-175 c = hit_mixed 208 bits powers (lit< tt) c.in-174.is refl
 
-returns-176 : tie.Need-returns-176
+returns-176 : tie.Need-returns-in-175
 unfolding mixed
-returns-176 c = hit_mixed 208 bits powers (lit< tt) c.match.keys176 refl
+returns-176 c = hit_mixed 208 bits powers (lit< tt) c.in-175.is refl
 
-returns-177 : tie.Need-returns-177
+returns-177 : tie.Need-returns-in-176
 unfolding mixed
-returns-177 c = hit_mixed 208 bits powers (lit< tt) c.match.keys177 refl
+returns-177 c = hit_mixed 208 bits powers (lit< tt) c.in-176.is refl
 
-returns-178 : tie.Need-returns-178
+returns-178 : tie.Need-returns-in-177
 unfolding mixed
-returns-178 c = hit_mixed 208 bits powers (lit< tt) c.match.keys178 refl
+returns-178 c = hit_mixed 208 bits powers (lit< tt) c.in-177.is refl
 
-returns-179 : tie.Need-returns-179
+returns-179 : tie.Need-returns-in-178
 unfolding mixed
-returns-179 c = hit_mixed 208 bits powers (lit< tt) c.match.keys179 refl
+returns-179 c = hit_mixed 208 bits powers (lit< tt) c.in-178.is refl
 
-returns-180 : tie.Need-returns-180
+returns-180 : tie.Need-returns-in-179
 unfolding mixed
-returns-180 c = hit_mixed 208 bits powers (lit< tt) c.match.keys180 refl
+returns-180 c = hit_mixed 208 bits powers (lit< tt) c.in-179.is refl
 
-returns-181 : tie.Need-returns-181
+returns-181 : tie.Need-returns-in-180
 unfolding mixed
-returns-181 c = hit_mixed 208 bits powers (lit< tt) c.match.keys181 refl
+returns-181 c = hit_mixed 208 bits powers (lit< tt) c.in-180.is refl
 
-returns-182 : tie.Need-returns-182
+returns-182 : tie.Need-returns-in-181
 unfolding mixed
-returns-182 c = hit_mixed 208 bits powers (lit< tt) c.match.keys182 refl
+returns-182 c = hit_mixed 208 bits powers (lit< tt) c.in-181.is refl
 
-returns-183 : tie.Need-returns-183
+returns-183 : tie.Need-returns-in-182
 unfolding mixed
-returns-183 c = hit_mixed 208 bits powers (lit< tt) c.match.keys183 refl
+returns-183 c = hit_mixed 208 bits powers (lit< tt) c.in-182.is refl
 
-returns-184 : tie.Need-returns-184
+returns-184 : tie.Need-returns-in-183
 unfolding mixed
-returns-184 c = hit_mixed 208 bits powers (lit< tt) c.match.keys184 refl
+returns-184 c = hit_mixed 208 bits powers (lit< tt) c.in-183.is refl
 
-returns-185 : tie.Need-returns-185
+returns-185 : tie.Need-returns-in-184
 unfolding mixed
-returns-185 c = hit_mixed 208 bits powers (lit< tt) c.match.keys185 refl
+returns-185 c = hit_mixed 208 bits powers (lit< tt) c.in-184.is refl
 
-returns-186 : tie.Need-returns-186
+returns-186 : tie.Need-returns-in-185
 unfolding mixed
-returns-186 c = hit_mixed 208 bits powers (lit< tt) c.match.keys186 refl
+returns-186 c = hit_mixed 208 bits powers (lit< tt) c.in-185.is refl
 
-returns-187 : tie.Need-returns-187
+returns-187 : tie.Need-returns-in-186
 unfolding mixed
-returns-187 c = hit_mixed 208 bits powers (lit< tt) c.match.keys187 refl
+returns-187 c = hit_mixed 208 bits powers (lit< tt) c.in-186.is refl
 
-returns-188 : tie.Need-returns-188
+returns-188 : tie.Need-returns-in-187
 unfolding mixed
-returns-188 c = hit_mixed 208 bits powers (lit< tt) c.match.keys188 refl
+returns-188 c = hit_mixed 208 bits powers (lit< tt) c.in-187.is refl
 
-returns-189 : tie.Need-returns-189
+returns-189 : tie.Need-returns-in-188
 unfolding mixed
-returns-189 c = hit_mixed 208 bits powers (lit< tt) c.match.keys189 refl
+returns-189 c = hit_mixed 208 bits powers (lit< tt) c.in-188.is refl
 
-returns-190 : tie.Need-returns-190
+returns-190 : tie.Need-returns-in-189
 unfolding mixed
-returns-190 c = hit_mixed 208 bits powers (lit< tt) c.match.keys190 refl
+returns-190 c = hit_mixed 208 bits powers (lit< tt) c.in-189.is refl
 
-returns-191 : tie.Need-returns-191
+returns-191 : tie.Need-returns-in-190
 unfolding mixed
-returns-191 c = hit_mixed 208 bits powers (lit< tt) c.match.keys191 refl
+returns-191 c = hit_mixed 208 bits powers (lit< tt) c.in-190.is refl
 
-returns-192 : tie.Need-returns-192
+returns-192 : tie.Need-returns-in-191
 unfolding mixed
-returns-192 c = hit_mixed 208 bits powers (lit< tt) c.match.keys192 refl
+returns-192 c = hit_mixed 208 bits powers (lit< tt) c.in-191.is refl
 
-returns-193 : tie.Need-returns-193
+returns-193 : tie.Need-returns-in-192
 unfolding mixed
-returns-193 c = hit_mixed 208 bits powers (lit< tt) c.match.keys193 refl
+returns-193 c = hit_mixed 208 bits powers (lit< tt) c.in-192.is refl
 
-returns-194 : tie.Need-returns-194
+returns-194 : tie.Need-returns-in-193
 unfolding mixed
-returns-194 c = hit_mixed 208 bits powers (lit< tt) c.match.keys194 refl
+returns-194 c = hit_mixed 208 bits powers (lit< tt) c.in-193.is refl
 
-returns-195 : tie.Need-returns-195
+returns-195 : tie.Need-returns-in-194
 unfolding mixed
-returns-195 c = hit_mixed 208 bits powers (lit< tt) c.match.keys195 refl
+returns-195 c = hit_mixed 208 bits powers (lit< tt) c.in-194.is refl
 
-returns-196 : tie.Need-returns-196
+returns-196 : tie.Need-returns-in-195
 unfolding mixed
-returns-196 c = hit_mixed 208 bits powers (lit< tt) c.match.keys196 refl
+returns-196 c = hit_mixed 208 bits powers (lit< tt) c.in-195.is refl
 
-returns-197 : tie.Need-returns-197
+returns-197 : tie.Need-returns-in-196
 unfolding mixed
-returns-197 c = hit_mixed 208 bits powers (lit< tt) c.match.keys197 refl
+returns-197 c = hit_mixed 208 bits powers (lit< tt) c.in-196.is refl
 
-returns-198 : tie.Need-returns-198
+returns-198 : tie.Need-returns-in-197
 unfolding mixed
-returns-198 c = hit_mixed 208 bits powers (lit< tt) c.match.keys198 refl
+returns-198 c = hit_mixed 208 bits powers (lit< tt) c.in-197.is refl
 
-returns-199 : tie.Need-returns-199
+returns-199 : tie.Need-returns-in-198
 unfolding mixed
-returns-199 c = hit_mixed 208 bits powers (lit< tt) c.match.keys199 refl
+returns-199 c = hit_mixed 208 bits powers (lit< tt) c.in-198.is refl
 
-returns-200 : tie.Need-returns-200
+returns-200 : tie.Need-returns-in-199
 unfolding mixed
-returns-200 c = hit_mixed 208 bits powers (lit< tt) c.match.keys200 refl
+returns-200 c = hit_mixed 208 bits powers (lit< tt) c.in-199.is refl
 
-returns-201 : tie.Need-returns-201
+returns-201 : tie.Need-returns-in-200
 unfolding mixed
-returns-201 c = hit_mixed 208 bits powers (lit< tt) c.match.keys201 refl
+returns-201 c = hit_mixed 208 bits powers (lit< tt) c.in-200.is refl
 
-returns-202 : tie.Need-returns-202
+returns-202 : tie.Need-returns-in-201
 unfolding mixed
-returns-202 c = hit_mixed 208 bits powers (lit< tt) c.match.keys202 refl
+returns-202 c = hit_mixed 208 bits powers (lit< tt) c.in-201.is refl
 
-returns-203 : tie.Need-returns-203
+returns-203 : tie.Need-returns-in-202
 unfolding mixed
-returns-203 c = hit_mixed 208 bits powers (lit< tt) c.match.keys203 refl
+returns-203 c = hit_mixed 208 bits powers (lit< tt) c.in-202.is refl
 
-returns-204 : tie.Need-returns-204
+returns-204 : tie.Need-returns-in-203
 unfolding mixed
-returns-204 c = hit_mixed 208 bits powers (lit< tt) c.match.keys204 refl
+returns-204 c = hit_mixed 208 bits powers (lit< tt) c.in-203.is refl
 
-returns-205 : tie.Need-returns-205
+returns-205 : tie.Need-returns-in-204
 unfolding mixed
-returns-205 c = hit_mixed 208 bits powers (lit< tt) c.match.keys205 refl
+returns-205 c = hit_mixed 208 bits powers (lit< tt) c.in-204.is refl
 
-returns-206 : tie.Need-returns-206
+returns-206 : tie.Need-returns-in-205
 unfolding mixed
-returns-206 c = hit_mixed 208 bits powers (lit< tt) c.match.keys206 refl
+returns-206 c = hit_mixed 208 bits powers (lit< tt) c.in-205.is refl
 
-returns-207 : tie.Need-returns-207
+returns-207 : tie.Need-returns-in-206
 unfolding mixed
-returns-207 c = hit_mixed 208 bits powers (lit< tt) c.match.keys207 refl
+returns-207 c = hit_mixed 208 bits powers (lit< tt) c.in-206.is refl
 
-returns-208 : tie.Need-returns-208
+returns-208 : tie.Need-returns-in-207
 unfolding mixed
-returns-208 c = hit_mixed 208 bits powers (lit< tt) c.match.keys208 refl
+returns-208 c = hit_mixed 208 bits powers (lit< tt) c.in-207.is refl
 
-returns-209 : tie.Need-returns-209
+returns-209 : tie.Need-returns-in-208
 unfolding mixed
-returns-209 c = hit_mixed 208 bits powers (lit< tt) c.match.keys209 refl
+returns-209 c = hit_mixed 208 bits powers (lit< tt) c.in-208.is refl
 
-returns-210 : tie.Need-returns-210
+returns-210 : tie.Need-returns-in-209
 unfolding mixed
-returns-210 c = hit_mixed 208 bits powers (lit< tt) c.match.keys210 refl
+returns-210 c = hit_mixed 208 bits powers (lit< tt) c.in-209.is refl
 
-returns-211 : tie.Need-returns-211
+returns-211 : tie.Need-returns-in-210
 unfolding mixed
-returns-211 c = hit_mixed 208 bits powers (lit< tt) c.match.keys211 refl
+returns-211 c = hit_mixed 208 bits powers (lit< tt) c.in-210.is refl
 
-returns-212 : tie.Need-returns-212
+returns-212 : tie.Need-returns-in-211
 unfolding mixed
-returns-212 c = hit_mixed 208 bits powers (lit< tt) c.match.keys212 refl
+returns-212 c = hit_mixed 208 bits powers (lit< tt) c.in-211.is refl
 
-returns-213 : tie.Need-returns-213
+returns-213 : tie.Need-returns-in-212
 unfolding mixed
-returns-213 c = hit_mixed 208 bits powers (lit< tt) c.match.keys213 refl
+returns-213 c = hit_mixed 208 bits powers (lit< tt) c.in-212.is refl
 
-returns-214 : tie.Need-returns-214
+returns-214 : tie.Need-returns-in-213
 unfolding mixed
-returns-214 c = hit_mixed 208 bits powers (lit< tt) c.match.keys214 refl
+returns-214 c = hit_mixed 208 bits powers (lit< tt) c.in-213.is refl
 
-returns-215 : tie.Need-returns-215
+returns-215 : tie.Need-returns-in-214
 unfolding mixed
-returns-215 c = hit_mixed 208 bits powers (lit< tt) c.match.keys215 refl
+returns-215 c = hit_mixed 208 bits powers (lit< tt) c.in-214.is refl
 
-returns-216 : tie.Need-returns-216
+returns-216 : tie.Need-returns-in-215
 unfolding mixed
-returns-216 c = hit_mixed 208 bits powers (lit< tt) c.match.keys216 refl
+returns-216 c = hit_mixed 208 bits powers (lit< tt) c.in-215.is refl
 
-returns-217 : tie.Need-returns-217
+returns-217 : tie.Need-returns-in-216
 unfolding mixed
-returns-217 c = hit_mixed 208 bits powers (lit< tt) c.match.keys217 refl
+returns-217 c = hit_mixed 208 bits powers (lit< tt) c.in-216.is refl
 
-returns-218 : tie.Need-returns-218
+returns-218 : tie.Need-returns-in-217
 unfolding mixed
-returns-218 c = hit_mixed 208 bits powers (lit< tt) c.match.keys218 refl
+returns-218 c = hit_mixed 208 bits powers (lit< tt) c.in-217.is refl
 
-returns-219 : tie.Need-returns-219
+returns-219 : tie.Need-returns-in-218
 unfolding mixed
-returns-219 c = hit_mixed 208 bits powers (lit< tt) c.match.keys219 refl
+returns-219 c = hit_mixed 208 bits powers (lit< tt) c.in-218.is refl
 
-returns-220 : tie.Need-returns-220
+returns-220 : tie.Need-returns-in-219
 unfolding mixed
-returns-220 c = hit_mixed 208 bits powers (lit< tt) c.match.keys220 refl
+returns-220 c = hit_mixed 208 bits powers (lit< tt) c.in-219.is refl
 
-returns-221 : tie.Need-returns-221
+returns-221 : tie.Need-returns-in-220
 unfolding mixed
-returns-221 c = hit_mixed 208 bits powers (lit< tt) c.match.keys221 refl
+returns-221 c = hit_mixed 208 bits powers (lit< tt) c.in-220.is refl
 
-returns-222 : tie.Need-returns-222
+returns-222 : tie.Need-returns-in-221
 unfolding mixed
-returns-222 c = hit_mixed 208 bits powers (lit< tt) c.match.keys222 refl
+returns-222 c = hit_mixed 208 bits powers (lit< tt) c.in-221.is refl
 
-returns-223 : tie.Need-returns-223
+returns-223 : tie.Need-returns-in-222
 unfolding mixed
-returns-223 c = hit_mixed 208 bits powers (lit< tt) c.match.keys223 refl
+returns-223 c = hit_mixed 208 bits powers (lit< tt) c.in-222.is refl
 
-returns-224 : tie.Need-returns-224
+returns-224 : tie.Need-returns-in-223
 unfolding mixed
-returns-224 c = hit_mixed 208 bits powers (lit< tt) c.match.keys224 refl
+returns-224 c = hit_mixed 208 bits powers (lit< tt) c.in-223.is refl
 
-returns-225 : tie.Need-returns-225
+returns-225 : tie.Need-returns-in-224
 unfolding mixed
-returns-225 c = hit_mixed 208 bits powers (lit< tt) c.match.keys225 refl
+returns-225 c = hit_mixed 208 bits powers (lit< tt) c.in-224.is refl
 
-returns-226 : tie.Need-returns-226
+returns-226 : tie.Need-returns-in-225
 unfolding mixed
-returns-226 c = hit_mixed 208 bits powers (lit< tt) c.match.keys226 refl
+returns-226 c = hit_mixed 208 bits powers (lit< tt) c.in-225.is refl
 
-returns-227 : tie.Need-returns-227
+returns-227 : tie.Need-returns-in-226
 unfolding mixed
-returns-227 c = hit_mixed 208 bits powers (lit< tt) c.match.keys227 refl
+returns-227 c = hit_mixed 208 bits powers (lit< tt) c.in-226.is refl
 
-returns-228 : tie.Need-returns-228
+returns-228 : tie.Need-returns-in-227
 unfolding mixed
-returns-228 c = hit_mixed 208 bits powers (lit< tt) c.match.keys228 refl
+returns-228 c = hit_mixed 208 bits powers (lit< tt) c.in-227.is refl
 
-returns-229 : tie.Need-returns-229
+returns-229 : tie.Need-returns-in-228
 unfolding mixed
-returns-229 c = hit_mixed 208 bits powers (lit< tt) c.match.keys229 refl
+returns-229 c = hit_mixed 208 bits powers (lit< tt) c.in-228.is refl
 
-returns-230 : tie.Need-returns-230
+returns-230 : tie.Need-returns-in-229
 unfolding mixed
-returns-230 c = hit_mixed 208 bits powers (lit< tt) c.match.keys230 refl
+returns-230 c = hit_mixed 208 bits powers (lit< tt) c.in-229.is refl
 
-returns-231 : tie.Need-returns-231
+returns-231 : tie.Need-returns-in-230
 unfolding mixed
-returns-231 c = hit_mixed 208 bits powers (lit< tt) c.match.keys231 refl
+returns-231 c = hit_mixed 208 bits powers (lit< tt) c.in-230.is refl
 
-returns-232 : tie.Need-returns-232
+returns-232 : tie.Need-returns-in-231
 unfolding mixed
-returns-232 c = hit_mixed 208 bits powers (lit< tt) c.match.keys232 refl
+returns-232 c = hit_mixed 208 bits powers (lit< tt) c.in-231.is refl
 
-returns-233 : tie.Need-returns-233
+returns-233 : tie.Need-returns-in-232
 unfolding mixed
-returns-233 c = hit_mixed 208 bits powers (lit< tt) c.match.keys233 refl
+returns-233 c = hit_mixed 208 bits powers (lit< tt) c.in-232.is refl
 
-returns-234 : tie.Need-returns-234
+returns-234 : tie.Need-returns-in-233
 unfolding mixed
-returns-234 c = hit_mixed 208 bits powers (lit< tt) c.match.keys234 refl
+returns-234 c = hit_mixed 208 bits powers (lit< tt) c.in-233.is refl
 
-returns-235 : tie.Need-returns-235
+returns-235 : tie.Need-returns-in-234
 unfolding mixed
-returns-235 c = hit_mixed 208 bits powers (lit< tt) c.match.keys235 refl
+returns-235 c = hit_mixed 208 bits powers (lit< tt) c.in-234.is refl
 
-returns-236 : tie.Need-returns-236
+returns-236 : tie.Need-returns-in-235
 unfolding mixed
-returns-236 c = hit_mixed 208 bits powers (lit< tt) c.match.keys236 refl
+returns-236 c = hit_mixed 208 bits powers (lit< tt) c.in-235.is refl
 
-returns-237 : tie.Need-returns-237
+returns-237 : tie.Need-returns-in-236
 unfolding mixed
-returns-237 c = hit_mixed 208 bits powers (lit< tt) c.match.keys237 refl
+returns-237 c = hit_mixed 208 bits powers (lit< tt) c.in-236.is refl
 
-returns-238 : tie.Need-returns-238
+returns-238 : tie.Need-returns-in-237
 unfolding mixed
-returns-238 c = hit_mixed 208 bits powers (lit< tt) c.match.keys238 refl
+returns-238 c = hit_mixed 208 bits powers (lit< tt) c.in-237.is refl
 
-returns-239 : tie.Need-returns-239
+returns-239 : tie.Need-returns-in-238
 unfolding mixed
-returns-239 c = hit_mixed 208 bits powers (lit< tt) c.match.keys239 refl
+returns-239 c = hit_mixed 208 bits powers (lit< tt) c.in-238.is refl
 
-returns-240 : tie.Need-returns-240
+returns-240 : tie.Need-returns-in-239
 unfolding mixed
-returns-240 c = hit_mixed 208 bits powers (lit< tt) c.match.keys240 refl
+returns-240 c = hit_mixed 208 bits powers (lit< tt) c.in-239.is refl
 
-returns-241 : tie.Need-returns-241
+returns-241 : tie.Need-returns-in-240
 unfolding mixed
-returns-241 c = hit_mixed 208 bits powers (lit< tt) c.match.keys241 refl
+returns-241 c = hit_mixed 208 bits powers (lit< tt) c.in-240.is refl
 
-returns-242 : tie.Need-returns-242
+returns-242 : tie.Need-returns-in-241
 unfolding mixed
-returns-242 c = hit_mixed 208 bits powers (lit< tt) c.match.keys242 refl
+returns-242 c = hit_mixed 208 bits powers (lit< tt) c.in-241.is refl
 
-returns-243 : tie.Need-returns-243
+returns-243 : tie.Need-returns-in-242
 unfolding mixed
-returns-243 c = hit_mixed 208 bits powers (lit< tt) c.match.keys243 refl
+returns-243 c = hit_mixed 208 bits powers (lit< tt) c.in-242.is refl
 
-returns-244 : tie.Need-returns-244
+returns-244 : tie.Need-returns-in-243
 unfolding mixed
-returns-244 c = hit_mixed 208 bits powers (lit< tt) c.match.keys244 refl
+returns-244 c = hit_mixed 208 bits powers (lit< tt) c.in-243.is refl
 
-returns-245 : tie.Need-returns-245
+returns-245 : tie.Need-returns-in-244
 unfolding mixed
-returns-245 c = hit_mixed 208 bits powers (lit< tt) c.match.keys245 refl
+returns-245 c = hit_mixed 208 bits powers (lit< tt) c.in-244.is refl
 
-returns-246 : tie.Need-returns-246
+returns-246 : tie.Need-returns-in-245
 unfolding mixed
-returns-246 c = hit_mixed 208 bits powers (lit< tt) c.match.keys246 refl
+returns-246 c = hit_mixed 208 bits powers (lit< tt) c.in-245.is refl
 
-returns-247 : tie.Need-returns-247
+returns-247 : tie.Need-returns-in-246
 unfolding mixed
-returns-247 c = hit_mixed 208 bits powers (lit< tt) c.match.keys247 refl
+returns-247 c = hit_mixed 208 bits powers (lit< tt) c.in-246.is refl
 
-returns-248 : tie.Need-returns-248
+returns-248 : tie.Need-returns-in-247
 unfolding mixed
-returns-248 c = hit_mixed 208 bits powers (lit< tt) c.match.keys248 refl
+returns-248 c = hit_mixed 208 bits powers (lit< tt) c.in-247.is refl
 
-returns-249 : tie.Need-returns-249
+returns-249 : tie.Need-returns-in-248
 unfolding mixed
-returns-249 c = hit_mixed 208 bits powers (lit< tt) c.match.keys249 refl
+returns-249 c = hit_mixed 208 bits powers (lit< tt) c.in-248.is refl
 
-returns-250 : tie.Need-returns-250
+returns-250 : tie.Need-returns-in-249
 unfolding mixed
-returns-250 c = hit_mixed 208 bits powers (lit< tt) c.match.keys250 refl
+returns-250 c = hit_mixed 208 bits powers (lit< tt) c.in-249.is refl
 
-returns-251 : tie.Need-returns-251
+returns-251 : tie.Need-returns-in-250
 unfolding mixed
-returns-251 c = hit_mixed 208 bits powers (lit< tt) c.match.keys251 refl
+returns-251 c = hit_mixed 208 bits powers (lit< tt) c.in-250.is refl
 
-returns-252 : tie.Need-returns-252
+returns-252 : tie.Need-returns-in-251
 unfolding mixed
-returns-252 c = hit_mixed 208 bits powers (lit< tt) c.match.keys252 refl
+returns-252 c = hit_mixed 208 bits powers (lit< tt) c.in-251.is refl
 
-returns-253 : tie.Need-returns-253
+returns-253 : tie.Need-returns-in-252
 unfolding mixed
-returns-253 c = hit_mixed 208 bits powers (lit< tt) c.match.keys253 refl
+returns-253 c = hit_mixed 208 bits powers (lit< tt) c.in-252.is refl
 
-returns-254 : tie.Need-returns-254
+returns-254 : tie.Need-returns-in-253
 unfolding mixed
-returns-254 c = hit_mixed 208 bits powers (lit< tt) c.match.keys254 refl
+returns-254 c = hit_mixed 208 bits powers (lit< tt) c.in-253.is refl
 
-returns-255 : tie.Need-returns-255
+returns-255 : tie.Need-returns-in-254
 unfolding mixed
-returns-255 c = hit_mixed 208 bits powers (lit< tt) c.match.keys255 refl
+returns-255 c = hit_mixed 208 bits powers (lit< tt) c.in-254.is refl
 
-returns-256 : tie.Need-returns-256
+returns-256 : tie.Need-returns-in_default
 unfolding mixed none
-returns-256 c = hit_mixed 208 bits powers (lit< tt) (last c.before.args.asked c.before.ranges.asked.fits c.match.rest) refl
+returns-256 c = hit_mixed 208 bits powers (lit< tt) (last c.args.asked c.before.ranges.asked.fits c.in_default.in_default-own.rest) refl
 
-pub table-1-spec : {M : Type 1} → statement M
-table-1-spec =
+pub table_1_spec : {M : Type 1} → statement M
+table_1_spec =
     tie.close
     (tie.spec
     returns

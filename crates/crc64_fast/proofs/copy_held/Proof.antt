@@ -20,71 +20,71 @@ use Rattle.crc64_fast.proofs.Walk.{So-far, none_copied, started, first_so_far, n
 use Rattle.crc64_fast.proofs.copy_held.Statement.{statement}
 use Rattle.crc64_fast.proofs.copy_held.Tie as tie
 
-abbrev invariant-loop : tie.invariant-loop
+abbrev invariant-loop : tie.invariant-loop-i
 invariant-loop register bytes out₀ short more first x₀ kept₀ i₀ out x kept i =
     (i ≤ length bytes) × ((length bytes - i) % 8 ≡ 0) × (kept < 2 ^ 64) × (fold (after x kept) (drop i bytes) ≡ fold (swapped 8 register) bytes)
     × So-far short bytes i out₀ out
 
-abbrev decreases-loop : tie.decreases-loop
+abbrev decreases-loop : tie.decreases-loop-i
 decreases-loop register bytes out₀ short more first x₀ kept₀ i₀ out x kept i = length bytes - i
 
-returns : tie.Need-returns invariant-loop decreases-loop
+returns : tie.Need-returns-then-bytes-eq0 invariant-loop decreases-loop
 returns c =
     let first = c.before.before.before in
     record {
-      folded = nothing first.args.register first.args.bytes.now c.if1.true first.ranges.register.fits;
-      copied = none_copied first.args.bytes.now first.args.out.now c.if1.true;
+      folded = nothing first.args.register first.args.bytes.now c.if-bytes-eq0.true first.ranges.register.fits;
+      copied = none_copied first.args.bytes.now first.args.out.now c.if-bytes-eq0.true;
     }
 
-sub_more : tie.Need-overflow-sub-more invariant-loop decreases-loop
+sub_more : tie.Need-overflow_sub-more invariant-loop decreases-loop
 sub_more c = search rules
 
-add-first-word : tie.Need-overflow-add-first-word invariant-loop decreases-loop
-add-first-word c = search rules
+add-first_word : tie.Need-overflow_add-more invariant-loop decreases-loop
+add-first_word c = search rules
 
 -- where the output is not too short for all, it has room for what there is
 room : (s out : List ℕ) (n : ℕ) → n ≤ length s → ltb (length out) (length s) ≡ false → n ≤ length out
 room s out n h e = le_trans h (ltb-false (length out) (length s) e)
 
-first-word-requires : tie.Need-first-word-requires invariant-loop decreases-loop
-first-word-requires c κs =
+first_word-requires : tie.Need-first_word-first-requires invariant-loop decreases-loop
+first_word-requires c κs =
     let first = c.before.before.before.before in
     let s : List ℕ = first.args.bytes.now in
-    let there : (length s - 1) % 8 + 1 ≤ length s = first_there (length s) c.before.if1.false in
+    let there : (length s - 1) % 8 + 1 ≤ length s = first_there (length s) c.if-bytes-eq0.false in
     let few : (length s - 1) % 8 < 8 = mod-lt (length s - 1) (lit< tt) in
     (omega arith, there, room s first.args.out.now _ there)
 
-mul-x : tie.Need-overflow-mul-x invariant-loop decreases-loop
+mul-x : tie.Need-overflow_mul-x invariant-loop decreases-loop
 mul-x c = search rules
 
-sub-x : tie.Need-overflow-sub-x invariant-loop decreases-loop
+sub-x : tie.Need-overflow_sub-x invariant-loop decreases-loop
 sub-x c = search rules
 
-shl-x : tie.Need-overflow-shl-x invariant-loop decreases-loop
+shl-x : tie.Need-overflow_shl-x invariant-loop decreases-loop
 shl-x c = search rules
 
-mul-kept : tie.Need-overflow-mul-kept invariant-loop decreases-loop
+mul-kept : tie.Need-overflow_mul-kept invariant-loop decreases-loop
 mul-kept c = search rules
 
-shr-kept : tie.Need-overflow-shr-kept invariant-loop decreases-loop
+shr-kept : tie.Need-overflow_shr-kept-2 invariant-loop decreases-loop
 shr-kept c = search rules
 
-add-i : tie.Need-overflow-add-i invariant-loop decreases-loop
+add-i : tie.Need-overflow_add-i invariant-loop decreases-loop
 add-i c = search rules
 
-loop-holds : tie.Need-loop-init invariant-loop decreases-loop
+loop-holds : tie.Need-loop-i-init invariant-loop decreases-loop
 loop-holds c =
     let known = c.before.before.before.before.before.before in
     let first = known.before in
-    let some = c.before.before.before.before.if1.false in
+    let some = c.if-bytes-eq0.false in
     let q : ℕ = first.args.register in
     let s : List ℕ = first.args.bytes.now in
     let out : List ℕ = first.args.out.now in
     let n : ℕ = length s in
     let there : (n - 1) % 8 + 1 ≤ n = first_there n some in
-    let bytes : Bytes s = λ i. (known.shared-slice-known.given i).fits in
+    let bytes : Bytes s = λ i. (known.shared_slice_known-1.given i).fits in
     let few : (n - 1) % 8 < 8 = mod-lt (n - 1) (lit< tt) in
-    let loaded = c.before.before.first_word.ensures in (
+    let loaded = c.first_word-first.ensures in (
       there,
       first_whole n some,
       kept_lt q _ _ first.ranges.register.fits,
@@ -95,76 +95,76 @@ loop-holds c =
 near-requires : tie.Need-near-requires invariant-loop decreases-loop
 near-requires c κs = search rules
 
-sub-if2 : tie.Need-overflow-sub-if2 invariant-loop decreases-loop
+sub-if2 : tie.Need-overflow_sub-bytes invariant-loop decreases-loop
 sub-if2 c = search rules
 
-same_length : tie.Need-same-length invariant-loop decreases-loop
+same_length : tie.Need-shape_of-out-then-bytes-i-lt8 invariant-loop decreases-loop
 same_length c =
     let first = c.before.before.before.before.before.before.before.before.before.before in
     let s : List ℕ = first.args.bytes.now in
     let out : List ℕ = first.args.out.now in
-    let there : (length s - 1) % 8 + 1 ≤ length s = first_there (length s) c.before.before.before.before.before.before.before.if1.false in
-    let at = c.before.before.loop in
+    let there : (length s - 1) % 8 + 1 ≤ length s = first_there (length s) c.if-bytes-eq0.false in
+    let at = c.loop-i in
     length_so_far (ltb (length out) (length s)) s at.i _ _ at.invariant.4
-    ∙ first_kept (ltb (length out) (length s)) _ _ out (room s out _ there) c.before.before.before.before.before.first_word.ensures.1
+    ∙ first_kept (ltb (length out) (length s)) _ _ out (room s out _ there) c.first_word-first.ensures.1
 
-returns-2 : tie.Need-returns-2 invariant-loop decreases-loop
+returns-2 : tie.Need-returns-then-bytes-i-lt8 invariant-loop decreases-loop
 returns-2 c =
-    let at = c.before.before.loop in
+    let at = c.loop-i in
     let known = c.before.before.before.before.before.before.before.before.before in
     let first = known.before in
     let s : List ℕ = first.args.bytes.now in
     let out : List ℕ = first.args.out.now in
     let n : ℕ = length s in
-    let there : (n - 1) % 8 + 1 ≤ n = first_there n c.before.before.before.before.before.before.before.if1.false in
-    let bytes : Bytes s = λ i. (known.shared-slice-known.given i).fits in
-    let loaded = c.before.before.before.before.before.first_word.ensures in
-    let all = none_left n at.i c.if2.true at.invariant.1 in
+    let there : (n - 1) % 8 + 1 ≤ n = first_there n c.if-bytes-eq0.false in
+    let bytes : Bytes s = λ i. (known.shared_slice_known-1.given i).fits in
+    let loaded = c.first_word-first.ensures in
+    let all = none_left n at.i c.if-bytes-i-lt8.true at.invariant.1 in
     record {
-      folded = ended s at.i at.x at.auto c.before.near.ensures at.invariant.2 at.invariant.3 all;
+      folded = ended s at.i at.x at.auto c.near.ensures at.invariant.2 at.invariant.3 all;
       copied =
           all_so_far (ltb (length out) n) s ((n - 1) % 8) bytes (mod-lt (n - 1) (lit< tt)) there loaded.0 out
           (ltb-false (length out) n) (ltb-true (length out) n) loaded.1 at.i at.invariant.4 all;
     }
 
-next-word-requires : tie.Need-next-word-requires invariant-loop decreases-loop
-next-word-requires c κs =
-    let at = c.before.before.before.loop in
-    place_so_far _ c.before.before.before.before.before.before.before.before.before.before.before.args.bytes.now at.i _ _ at.invariant.4
+next_word-requires : tie.Need-next_word-requires invariant-loop decreases-loop
+next_word-requires c κs =
+    let at = c.loop-i in
+    place_so_far _ c.args.bytes.now at.i _ _ at.invariant.4
 
-add-i-2 : tie.Need-overflow-add-i-2 invariant-loop decreases-loop
+add-i-2 : tie.Need-overflow_add-i-in-loop-i invariant-loop decreases-loop
 add-i-2 c = search rules
 
-loop-less : tie.Need-loop-smaller invariant-loop decreases-loop
+loop-less : tie.Need-loop-i-smaller invariant-loop decreases-loop
 loop-less c = search rules
 
-loop-again : tie.Need-loop-preserved invariant-loop decreases-loop
+loop-again : tie.Need-loop-i-preserved invariant-loop decreases-loop
 loop-again c =
-    let at = c.before.before.before.before.before.before.loop in
+    let at = c.loop-i in
     let known = c.before.before.before.before.before.before.before.before.before.before.before.before.before in
     let first = known.before in
     let s : List ℕ = first.args.bytes.now in
-    let bytes : Bytes s = λ i. (known.shared-slice-known.given i).fits in
+    let bytes : Bytes s = λ i. (known.shared_slice_known-1.given i).fits in
     let short : Bool = ltb (length first.args.out.now) (length s) in
-    let more = c.before.before.before.before.if2.false in
-    let loaded = c.before.before.next_word.ensures in (
+    let more = c.if-bytes-i-lt8.false in
+    let loaded = c.next_word.ensures in (
       search rules,
       next_whole (length s) at.i more at.invariant.1,
       lit< tt,
-      again s at.i at.x at.auto c.before.before.before.before.before.near.ensures at.invariant.2 at.invariant.3 loaded.0 bytes more,
+      again s at.i at.x at.auto c.near.ensures at.invariant.2 at.invariant.3 loaded.0 bytes more,
       next_so_far short s at.i _ at.out at.invariant.4 loaded.0 bytes more loaded.1,
     )
 
-pub copy-held-spec : {M : Type 1} → statement M
-copy-held-spec =
+pub copy_held_spec : {M : Type 1} → statement M
+copy_held_spec =
     tie.close
     (tie.spec
     invariant-loop
     decreases-loop
     returns
     sub_more
-    add-first-word
-    first-word-requires
+    add-first_word
+    first_word-requires
     mul-x
     sub-x
     shl-x
@@ -176,7 +176,7 @@ copy-held-spec =
     sub-if2
     same_length
     returns-2
-    next-word-requires
+    next_word-requires
     add-i-2
     loop-less
     loop-again)

@@ -4,21 +4,21 @@ use Rattle.crc64_fast.proofs.Turn.{by_value}
 use Rattle.crc64_fast.proofs.fold_fast.Statement.{statement}
 use Rattle.crc64_fast.proofs.fold_fast.Tie as tie
 
-swap-bytes-requires : tie.Need-swap-bytes-requires
-swap-bytes-requires c κs = search rules
+swap_bytes-requires : tie.Need-swap_bytes-requires
+swap_bytes-requires c κs = search rules
 
-fold-held-requires : tie.Need-fold-held-requires
-fold-held-requires c κs = search rules
+fold_held-requires : tie.Need-fold_held-requires
+fold_held-requires c κs = search rules
 
-swap-bytes-requires-2 : tie.Need-swap-bytes-requires-2
-swap-bytes-requires-2 c κs = search rules
+swap_bytes-requires-2 : tie.Need-swap_bytes-requires-2
+swap_bytes-requires-2 c κs = search rules
 
 returns : tie.Need-returns
 returns c =
     let first = c.before.before.before.before in
-    by_value first.args.register first.args.bytes.now c.before.before.swap_bytes.ensures c.before.fold-held.ensures
-    c.swap-bytes2.ensures first.ranges.register.fits
+    by_value first.args.register first.args.bytes.now c.swap_bytes.ensures c.fold_held.ensures
+    c.swap_bytes-2.ensures first.ranges.register.fits
 
-pub fold-fast-spec : {M : Type 1} → statement M
-fold-fast-spec =
-    tie.close (tie.spec swap-bytes-requires fold-held-requires swap-bytes-requires-2 returns)
+pub fold_fast_spec : {M : Type 1} → statement M
+fold_fast_spec =
+    tie.close (tie.spec swap_bytes-requires fold_held-requires swap_bytes-requires-2 returns)

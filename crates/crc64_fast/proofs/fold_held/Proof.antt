@@ -3,14 +3,14 @@ use borrow.Author.Rules.{rules}
 use Rattle.crc64_fast.proofs.fold_held.Statement.{statement}
 use Rattle.crc64_fast.proofs.fold_held.Tie as tie
 
-slice-aggregate-copy-held : tie.Need-slice-aggregate-copy-held
-slice-aggregate-copy-held c = search rules
+slice_aggregate-copy_held : tie.Need-slice_bounds-copy_held-end
+slice_aggregate-copy_held c = search rules
 
-copy-held-requires : tie.Need-copy-held-requires
-copy-held-requires c κs = search rules
+copy_held-requires : tie.Need-copy_held-requires
+copy_held-requires c κs = search rules
 
 returns : tie.Need-returns
-returns c = c.before.copy-held.ensures.folded
+returns c = c.copy_held.ensures.folded
 
-pub fold-held-spec : {M : Type 1} → statement M
-fold-held-spec = tie.close (tie.spec slice-aggregate-copy-held copy-held-requires returns)
+pub fold_held_spec : {M : Type 1} → statement M
+fold_held_spec = tie.close (tie.spec slice_aggregate-copy_held copy_held-requires returns)

@@ -13,81 +13,81 @@ use Rattle.crc64_fast.proofs.Walk.{low_more, low_left, low_length}
 use Rattle.crc64_fast.proofs.write_low.Statement.{statement}
 use Rattle.crc64_fast.proofs.write_low.Tie as tie
 
-abbrev invariant-loop : tie.invariant-loop
+abbrev invariant-loop : tie.invariant-loop-i
 invariant-loop word count out₀ left₀ i₀ out left i = (i ≤ count) × (left ≡ word / 256 ^ i) × (out ≡ over (bytes_of i word) out₀)
 
-abbrev decreases-loop : tie.decreases-loop
+abbrev decreases-loop : tie.decreases-loop-i
 decreases-loop word count out₀ left₀ i₀ out left i = count - i
 
-write-u64-requires : tie.Need-write-u64-requires invariant-loop decreases-loop
-write-u64-requires c κs = search rules
+write_u64-requires : tie.Need-write_u64-requires invariant-loop decreases-loop
+write_u64-requires c κs = search rules
 
-same_length : tie.Need-same-length invariant-loop decreases-loop
+same_length : tie.Need-shape_of-out-then-count-eq8 invariant-loop decreases-loop
 same_length c = search rules
 
-returns : tie.Need-returns invariant-loop decreases-loop
+returns : tie.Need-returns-then-count-eq8 invariant-loop decreases-loop
 returns c =
     let start = c.before.before.before.before.before.before in
-    let eight : start.args.count ≡ 8 = c.before.before.before.before.if1.true in
-    c.before.before.write-u64.ensures
+    let eight : start.args.count ≡ 8 = c.if-count-eq8.true in
+    c.write_u64.ensures
     ∙ fitted_fits (bytes_of 8 start.args.word) start.args.out.now (omega (arith, length_bytes_of 8 start.args.word))
     ∙ ap (λ (k : ℕ). over (bytes_of k start.args.word) start.args.out.now) (sym eight)
 
-loop-holds : tie.Need-loop-init invariant-loop decreases-loop
+loop-holds : tie.Need-loop-i-init invariant-loop decreases-loop
 unfolding bytes_of
-loop-holds c = (omega arith, sym (div-one c.before.before.args.word), refl)
+loop-holds c = (omega arith, sym (div-one c.args.word), refl)
 
-cast-out : tie.Need-overflow-cast-out invariant-loop decreases-loop
+cast-out : tie.Need-overflow_cast-out invariant-loop decreases-loop
 cast-out c = search rules
 
-slice-write-out : tie.Need-slice-write-out invariant-loop decreases-loop
-slice-write-out c =
+slice_write-out : tie.Need-bounds-out-i invariant-loop decreases-loop
+slice_write-out c =
     let start = c.before.before.before.before in
-    let at = c.before.loop in
+    let at = c.loop-i in
     omega (arith, low_length start.args.word at.i start.args.out.now at.out at.invariant.2 (omega arith))
 
-add-i : tie.Need-overflow-add-i invariant-loop decreases-loop
+add-i : tie.Need-overflow_add-i invariant-loop decreases-loop
 add-i c = omega arith
 
-loop-less : tie.Need-loop-smaller invariant-loop decreases-loop
+loop-less : tie.Need-loop-i-smaller invariant-loop decreases-loop
 loop-less c = omega arith
 
-loop-again : tie.Need-loop-preserved invariant-loop decreases-loop
+loop-again : tie.Need-loop-i-preserved invariant-loop decreases-loop
 loop-again c =
     let start = c.before.before.before.before in
-    let at = c.before.loop in (
+    let at = c.loop-i in (
       omega arith,
       low_left start.args.word at.i at.left at.invariant.1,
       low_more start.args.word at.i at.left start.args.out.now at.out at.invariant.1 at.invariant.2 (omega arith),
     )
 
-same-length-2 : tie.Need-same-length-2 invariant-loop decreases-loop
-same-length-2 c =
+same_length-2 : tie.Need-shape_of-out invariant-loop decreases-loop
+same_length-2 c =
     let start = c.before.before.before.before in
-    let at = c.before.loop in
+    let at = c.loop-i in
     low_length start.args.word at.i start.args.out.now at.out at.invariant.2 (omega arith)
 
-returns-2 : tie.Need-returns-2 invariant-loop decreases-loop
+returns-2 : tie.Need-returns invariant-loop decreases-loop
 returns-2 c =
     let start = c.before.before.before.before in
-    let at = c.before.loop in
+    let at = c.loop-i in
     let all : at.i ≡ start.args.count = omega arith in
     at.invariant.2 ∙ ap (λ (k : ℕ). over (bytes_of k start.args.word) start.args.out.now) all
 
-pub write-low-spec : {M : Type 1} → statement M
-write-low-spec =
+pub write_low_spec : {M : Type 1} → statement M
+write_low_spec =
     tie.close
     (tie.spec
     invariant-loop
     decreases-loop
-    write-u64-requires
+    write_u64-requires
     same_length
     returns
     loop-holds
     cast-out
-    slice-write-out
+    slice_write-out
     add-i
     loop-less
     loop-again
-    same-length-2
+    same_length-2
     returns-2)

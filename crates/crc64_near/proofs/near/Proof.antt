@@ -7,53 +7,53 @@ use Rattle.crc64_eight.proofs.EightBytes.{lowest, beside, whole}
 use Rattle.crc64_near.proofs.near.Statement.{statement}
 use Rattle.crc64_near.proofs.near.Tie as tie
 
-cast-table-7 : tie.Need-overflow-cast-table-7
-cast-table-7 c = search rules
+cast-table_7 : tie.Need-overflow_cast-x
+cast-table_7 c = search rules
 
-table-7-requires : tie.Need-table-7-requires
-table-7-requires c κs = search rules
+table_7-requires : tie.Need-table_7-requires
+table_7-requires c κs = search rules
 
-cast-table-6 : tie.Need-overflow-cast-table-6
-cast-table-6 c = search rules
+cast-table_6 : tie.Need-overflow_cast-x1
+cast-table_6 c = search rules
 
-table-6-requires : tie.Need-table-6-requires
-table-6-requires c κs = search rules
+table_6-requires : tie.Need-table_6-requires
+table_6-requires c κs = search rules
 
-cast-table-5 : tie.Need-overflow-cast-table-5
-cast-table-5 c = search rules
+cast-table_5 : tie.Need-overflow_cast-x2
+cast-table_5 c = search rules
 
-table-5-requires : tie.Need-table-5-requires
-table-5-requires c κs = search rules
+table_5-requires : tie.Need-table_5-requires
+table_5-requires c κs = search rules
 
-cast-table-4 : tie.Need-overflow-cast-table-4
-cast-table-4 c = search rules
+cast-table_4 : tie.Need-overflow_cast-x3
+cast-table_4 c = search rules
 
-table-4-requires : tie.Need-table-4-requires
-table-4-requires c κs = search rules
+table_4-requires : tie.Need-table_4-requires
+table_4-requires c κs = search rules
 
-cast-table-3 : tie.Need-overflow-cast-table-3
-cast-table-3 c = search rules
+cast-table_3 : tie.Need-overflow_cast-x4
+cast-table_3 c = search rules
 
-table-3-requires : tie.Need-table-3-requires
-table-3-requires c κs = search rules
+table_3-requires : tie.Need-table_3-requires
+table_3-requires c κs = search rules
 
-cast-table-2 : tie.Need-overflow-cast-table-2
-cast-table-2 c = search rules
+cast-table_2 : tie.Need-overflow_cast-x5
+cast-table_2 c = search rules
 
-table-2-requires : tie.Need-table-2-requires
-table-2-requires c κs = search rules
+table_2-requires : tie.Need-table_2-requires
+table_2-requires c κs = search rules
 
-cast-table-1 : tie.Need-overflow-cast-table-1
-cast-table-1 c = search rules
+cast-table_1 : tie.Need-overflow_cast-x6
+cast-table_1 c = search rules
 
-table-1-requires : tie.Need-table-1-requires
-table-1-requires c κs = search rules
+table_1-requires : tie.Need-table_1-requires
+table_1-requires c κs = search rules
 
-cast-table-0 : tie.Need-overflow-cast-table-0
-cast-table-0 c = search rules
+cast-table_0 : tie.Need-overflow_cast-x7
+cast-table_0 c = search rules
 
-table-0-requires : tie.Need-table-0-requires
-table-0-requires c κs = search rules
+table_0-requires : tie.Need-table_0-requires
+table_0-requires c κs = search rules
 
 returns : tie.Need-returns
 returns c =
@@ -66,33 +66,33 @@ returns c =
     let after-7 = after-6.before in
     let x : ℕ = after-7.before.args.x in
     whole 0 x
-    (beside 0 6 _ (lit< tt) after-7.table-7.ensures
-    (beside 0 5 _ (lit< tt) after-6.table-6.ensures
-    (beside 0 4 _ (lit< tt) after-5.table-5.ensures
-    (beside 0 3 _ (lit< tt) after-4.table-4.ensures
-    (beside 0 2 _ (lit< tt) after-3.table-3.ensures
-    (beside 0 1 _ (lit< tt) after-2.table-2.ensures
-    (beside 0 0 _ (lit< tt) after-1.table-1.ensures
-    (lowest 0 _ c.table-0.ensures))))))))
+    (beside 0 6 _ (lit< tt) after-7.table_7.ensures
+    (beside 0 5 _ (lit< tt) after-6.table_6.ensures
+    (beside 0 4 _ (lit< tt) after-5.table_5.ensures
+    (beside 0 3 _ (lit< tt) after-4.table_4.ensures
+    (beside 0 2 _ (lit< tt) after-3.table_3.ensures
+    (beside 0 1 _ (lit< tt) after-2.table_2.ensures
+    (beside 0 0 _ (lit< tt) after-1.table_1.ensures
+    (lowest 0 _ c.table_0.ensures))))))))
 
-pub near-spec : {M : Type 1} → statement M
-near-spec =
+pub near_spec : {M : Type 1} → statement M
+near_spec =
     tie.close
     (tie.spec
-    cast-table-7
-    table-7-requires
-    cast-table-6
-    table-6-requires
-    cast-table-5
-    table-5-requires
-    cast-table-4
-    table-4-requires
-    cast-table-3
-    table-3-requires
-    cast-table-2
-    table-2-requires
-    cast-table-1
-    table-1-requires
-    cast-table-0
-    table-0-requires
+    cast-table_7
+    table_7-requires
+    cast-table_6
+    table_6-requires
+    cast-table_5
+    table_5-requires
+    cast-table_4
+    table_4-requires
+    cast-table_3
+    table_3-requires
+    cast-table_2
+    table_2-requires
+    cast-table_1
+    table_1-requires
+    cast-table_0
+    table_0-requires
     returns)

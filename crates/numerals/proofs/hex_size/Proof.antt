@@ -6,17 +6,17 @@ use borrow.Author.Rules.{rules}
 use Rattle.numerals.proofs.hex_size.Statement.{statement}
 use Rattle.numerals.proofs.hex_size.Tie as tie
 
-sub-count : tie.Need-overflow-sub-count
+sub-count : tie.Need-overflow_sub-count
 sub-count c = omega (arith, zeros_most c.args.word (search rules))
 
-cast-result : tie.Need-overflow-cast-result
+cast-result : tie.Need-overflow_cast-result
 cast-result c = search rules
 
-returns : tie.Need-returns
-returns c = no_digit_counted c.before.args.word (search rules) c.if1.true
+returns : tie.Need-returns-then-count-eq0
+returns c = no_digit_counted c.args.word (search rules) c.if-count-eq0.true
 
-returns-2 : tie.Need-returns-2
-returns-2 c = digits_counted c.before.args.word (search rules) c.if1.false
+returns-2 : tie.Need-returns-else-count-eq0
+returns-2 c = digits_counted c.args.word (search rules) c.if-count-eq0.false
 
-pub hex-size-spec : {M : Type 1} → statement M
-hex-size-spec = tie.close (tie.spec sub-count cast-result returns returns-2)
+pub hex_size_spec : {M : Type 1} → statement M
+hex_size_spec = tie.close (tie.spec sub-count cast-result returns returns-2)

@@ -9,38 +9,38 @@ use borrow.Author.Rules.{rules}
 use Rattle.word_read.proofs.read_u16.Statement.{statement}
 use Rattle.word_read.proofs.read_u16.Tie as tie
 
-returns : tie.Need-returns
-returns c = sym (word_past 2 c.before.before.args.s.now c.before.before.args.at c.if1.true)
+returns : tie.Need-returns-then-s-at
+returns c = sym (word_past 2 c.args.s.now c.args.at c.if-s-at.true)
 
-sub-if2 : tie.Need-overflow-sub-if2
+sub-if2 : tie.Need-overflow_sub-s
 sub-if2 c = search rules
 
-shared-slice-read-result : tie.Need-shared-slice-read-result
-shared-slice-read-result c = search rules
+shared_slice_read-result : tie.Need-bounds-s-at
+shared_slice_read-result c = search rules
 
-cast-result : tie.Need-overflow-cast-result
-cast-result c = omega (arith, c.shared-slice-known2.given c.before.before.before.before.args.at)
+cast-result : tie.Need-overflow_cast-result
+cast-result c = omega (arith, c.shared_slice_known-then-s-at-lt2-1.given c.args.at)
 
-returns-2 : tie.Need-returns-2
+returns-2 : tie.Need-returns-then-s-at-lt2
 unfolding word
 returns-2 c =
     let start = c.before.before.before.before in
     omega (arith, word_past 1 start.args.s.now (start.args.at + 1) (omega arith))
 
-whole-u16-requires : tie.Need-whole-u16-requires
-whole-u16-requires c κs = search rules
+whole_u16-requires : tie.Need-whole_u16-requires
+whole_u16-requires c κs = search rules
 
-returns-3 : tie.Need-returns-3
+returns-3 : tie.Need-returns
 returns-3 c = search rules
 
-pub read-u16-spec : {M : Type 1} → statement M
-read-u16-spec =
+pub read_u16_spec : {M : Type 1} → statement M
+read_u16_spec =
     tie.close
     (tie.spec
     returns
     sub-if2
-    shared-slice-read-result
+    shared_slice_read-result
     cast-result
     returns-2
-    whole-u16-requires
+    whole_u16-requires
     returns-3)

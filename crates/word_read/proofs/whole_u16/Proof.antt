@@ -7,39 +7,39 @@ use borrow.Author.Rules.{rules}
 use Rattle.word_read.proofs.whole_u16.Statement.{statement}
 use Rattle.word_read.proofs.whole_u16.Tie as tie
 
-shared-slice-read-result : tie.Need-shared-slice-read-result
-shared-slice-read-result c = search rules
+shared_slice_read-result : tie.Need-bounds-s-at
+shared_slice_read-result c = search rules
 
-cast-result : tie.Need-overflow-cast-result
-cast-result c = omega (arith, c.shared-slice-known.given c.before.args.at)
+cast-result : tie.Need-overflow_cast-result
+cast-result c = omega (arith, c.shared_slice_known-1.given c.args.at)
 
-add-result : tie.Need-overflow-add-result
+add-result : tie.Need-overflow_add-result
 add-result c = search rules
 
-shared-slice-read-result-2 : tie.Need-shared-slice-read-result-2
-shared-slice-read-result-2 c = search rules
+shared_slice_read-result-2 : tie.Need-bounds-s-at-2
+shared_slice_read-result-2 c = search rules
 
-cast-result-2 : tie.Need-overflow-cast-result-2
-cast-result-2 c = omega (arith, c.shared-slice-known2.given (c.before.before.args.at + 1))
+cast-result-2 : tie.Need-overflow_cast-result-2
+cast-result-2 c = omega (arith, c.shared_slice_known-2-1.given (c.args.at + 1))
 
-mul-result : tie.Need-overflow-mul-result
-mul-result c = omega (arith, c.shared-slice-known2.given (c.before.before.args.at + 1))
+mul-result : tie.Need-overflow_mul-result
+mul-result c = omega (arith, c.shared_slice_known-2-1.given (c.args.at + 1))
 
-add-result-2 : tie.Need-overflow-add-result-2
-add-result-2 c = omega (arith, c.shared-slice-known2.given c.before.before.args.at, c.shared-slice-known2.given (c.before.before.args.at + 1))
+add-result-2 : tie.Need-overflow_add-result-2
+add-result-2 c = omega (arith, c.shared_slice_known-2-1.given c.args.at, c.shared_slice_known-2-1.given (c.args.at + 1))
 
 returns : tie.Need-returns
 unfolding word
 returns c = omega arith
 
-pub whole-u16-spec : {M : Type 1} → statement M
-whole-u16-spec =
+pub whole_u16_spec : {M : Type 1} → statement M
+whole_u16_spec =
     tie.close
     (tie.spec
-    shared-slice-read-result
+    shared_slice_read-result
     cast-result
     add-result
-    shared-slice-read-result-2
+    shared_slice_read-result-2
     cast-result-2
     mul-result
     add-result-2

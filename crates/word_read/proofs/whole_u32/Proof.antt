@@ -5,40 +5,40 @@ use borrow.Author.Rules.{rules}
 use Rattle.word_read.proofs.whole_u32.Statement.{statement}
 use Rattle.word_read.proofs.whole_u32.Tie as tie
 
-whole-u16-requires : tie.Need-whole-u16-requires
-whole-u16-requires c κs = search rules
+whole_u16-requires : tie.Need-whole_u16-requires
+whole_u16-requires c κs = search rules
 
-cast-result : tie.Need-overflow-cast-result
+cast-result : tie.Need-overflow_cast-result
 cast-result c = search rules
 
-add-whole-u16 : tie.Need-overflow-add-whole-u16
-add-whole-u16 c = search rules
+add-whole_u16 : tie.Need-overflow_add-at
+add-whole_u16 c = search rules
 
-whole-u16-requires-2 : tie.Need-whole-u16-requires-2
-whole-u16-requires-2 c κs = search rules
+whole_u16-requires-2 : tie.Need-whole_u16-requires-2
+whole_u16-requires-2 c κs = search rules
 
-cast-result-2 : tie.Need-overflow-cast-result-2
+cast-result-2 : tie.Need-overflow_cast-result-2
 cast-result-2 c = search rules
 
-mul-result : tie.Need-overflow-mul-result
+mul-result : tie.Need-overflow_mul-result
 mul-result c = search rules
 
-add-result : tie.Need-overflow-add-result
+add-result : tie.Need-overflow_add-result
 add-result c = search rules
 
 returns : tie.Need-returns
 returns c =
     let start = c.before.before.before in
-    word_halves 2 start.args.s.now start.args.at c.before.whole-u16.ensures c.whole-u162.ensures
+    word_halves 2 start.args.s.now start.args.at c.whole_u16.ensures c.whole_u16-2.ensures
 
-pub whole-u32-spec : {M : Type 1} → statement M
-whole-u32-spec =
+pub whole_u32_spec : {M : Type 1} → statement M
+whole_u32_spec =
     tie.close
     (tie.spec
-    whole-u16-requires
+    whole_u16-requires
     cast-result
-    add-whole-u16
-    whole-u16-requires-2
+    add-whole_u16
+    whole_u16-requires-2
     cast-result-2
     mul-result
     add-result

@@ -6,29 +6,29 @@ use borrow.Author.Rules.{rules}
 use Rattle.word_write.proofs.write_u16.Statement.{statement}
 use Rattle.word_write.proofs.write_u16.Tie as tie
 
-returns : tie.Need-returns
-returns c = word_unwritten 2 c.before.args.short c.before.args.out.now c.if1.true
+returns : tie.Need-returns-then-out-lt2
+returns c = word_unwritten 2 c.args.short c.args.out.now c.if-out-lt2.true
 
-cast-out : tie.Need-overflow-cast-out
+cast-out : tie.Need-overflow_cast-out
 cast-out c = search rules
 
-slice-write-out : tie.Need-slice-write-out
-slice-write-out c = search rules
+slice_write-out : tie.Need-bounds-out-0
+slice_write-out c = search rules
 
-cast-out-2 : tie.Need-overflow-cast-out-2
+cast-out-2 : tie.Need-overflow_cast-out-2
 cast-out-2 c = search rules
 
-slice-write-out-2 : tie.Need-slice-write-out-2
-slice-write-out-2 c = search rules
+slice_write-out-2 : tie.Need-bounds-out-1
+slice_write-out-2 c = search rules
 
-same_length : tie.Need-same-length
+same_length : tie.Need-shape_of-out
 same_length c = search rules
 
-returns-2 : tie.Need-returns-2
+returns-2 : tie.Need-returns
 unfolding bytes_of
-returns-2 c = word_written 2 c.before.args.short c.before.args.out.now c.if1.false
+returns-2 c = word_written 2 c.args.short c.args.out.now c.if-out-lt2.false
 
-pub write-u16-spec : {M : Type 1} → statement M
-write-u16-spec =
+pub write_u16_spec : {M : Type 1} → statement M
+write_u16_spec =
     tie.close
-    (tie.spec returns cast-out slice-write-out cast-out-2 slice-write-out-2 same_length returns-2)
+    (tie.spec returns cast-out slice_write-out cast-out-2 slice_write-out-2 same_length returns-2)

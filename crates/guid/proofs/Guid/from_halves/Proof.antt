@@ -6,20 +6,20 @@ use borrow.Author.Rules.{rules}
 use Rattle.guid.proofs.Guid.from_halves.Statement.{statement}
 use Rattle.guid.proofs.Guid.from_halves.Tie as tie
 
-cast-t4 : tie.Need-overflow-cast-t4
+cast-t4 : tie.Need-overflow_cast-result
 cast-t4 c = search rules
 
-cast-t6 : tie.Need-overflow-cast-t6
+cast-t6 : tie.Need-overflow_cast-result-2
 cast-t6 c = search rules
 
-cast-t8 : tie.Need-overflow-cast-t8
+cast-t8 : tie.Need-overflow_cast-result-3
 cast-t8 c = search rules
 
-cast-t10 : tie.Need-overflow-cast-t10
+cast-t10 : tie.Need-overflow_cast-result-4
 cast-t10 c = search rules
 
 returns : tie.Need-returns
 returns c = sym (words_of_halves c.args.first c.args.second (search rules) (search rules))
 
-pub from-halves-spec : {M : Type 1} → statement M
-from-halves-spec = tie.close (tie.spec cast-t4 cast-t6 cast-t8 cast-t10 returns)
+pub from_halves_spec : {M : Type 1} → statement M
+from_halves_spec = tie.close (tie.spec cast-t4 cast-t6 cast-t8 cast-t10 returns)

@@ -5,18 +5,18 @@ use Rattle.guid.proofs.WireLaws.{null_last}
 use Rattle.guid.proofs.Guid.is_null.Statement.{statement}
 use Rattle.guid.proofs.Guid.is_null.Tie as tie
 
-returns : tie.Need-returns
-returns c = simp (ne_eqb _ _ c.if1.true)
+returns : tie.Need-returns-then-self-ne0
+returns c = simp (ne_eqb _ _ c.if-self-ne0.true)
 
-returns-2 : tie.Need-returns-2
-returns-2 c = simp (eq-eqb _ _ c.before.before.if1.false, ne_eqb _ _ c.if2.true)
+returns-2 : tie.Need-returns-then-self-ne0-2
+returns-2 c = simp (eq-eqb _ _ c.if-self-ne0.false, ne_eqb _ _ c.if-self-ne0-2.true)
 
-returns-3 : tie.Need-returns-3
-returns-3 c = simp (eq-eqb _ _ c.before.before.before.before.if1.false, eq-eqb _ _ c.before.before.if2.false, ne_eqb _ _ c.if3.true)
+returns-3 : tie.Need-returns-then-self-ne0-3
+returns-3 c = simp (eq-eqb _ _ c.if-self-ne0.false, eq-eqb _ _ c.if-self-ne0-2.false, ne_eqb _ _ c.if-self-ne0-3.true)
 
-returns-4 : tie.Need-returns-4
+returns-4 : tie.Need-returns
 returns-4 c =
-    null_last c.before.before.before.before.before.before.before.args.self c.before.before.before.before.before.if1.false c.before.before.before.if2.false c.before.if3.false
+    null_last c.args.self c.if-self-ne0.false c.if-self-ne0-2.false c.if-self-ne0-3.false
 
 pub is_null_spec : {M : Type 1} → statement M
 is_null_spec = tie.close (tie.spec returns returns-2 returns-3 returns-4)

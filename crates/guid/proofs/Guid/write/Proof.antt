@@ -16,66 +16,66 @@ use borrow.Author.Rules.{rules}
 use Rattle.guid.proofs.Guid.write.Statement.{statement}
 use Rattle.guid.proofs.Guid.write.Tie as tie
 
-returns : tie.Need-returns
-returns c = sym (fitted_short (wire_bytes c.before.before.args.self) _ (rw (length_wire c.before.before.args.self) c.if1.true))
+returns : tie.Need-returns-then-out-lt16
+returns c = sym (fitted_short (wire_bytes c.args.self) _ (rw (length_wire c.args.self) c.if-out-lt16.true))
 
-write-u32-requires : tie.Need-write-u32-requires
-write-u32-requires c κs = search rules
+write_u32-requires : tie.Need-write_u32-requires
+write_u32-requires c κs = search rules
 
-sub-write-u32 : tie.Need-overflow-sub-write-u32
-sub-write-u32 c = search rules
+sub-write_u32 : tie.Need-slice_bounds-write_u32-count
+sub-write_u32 c = search rules
 
-part-write-u32-start : tie.Need-slice-bounds-write-u32-start
-part-write-u32-start c = search rules
+part-write_u32-start : tie.Need-slice_bounds-write_u32-start
+part-write_u32-start c = search rules
 
-part-write-u32-end : tie.Need-slice-bounds-write-u32-end
-part-write-u32-end c = search rules
+part-write_u32-end : tie.Need-slice_bounds-write_u32-end
+part-write_u32-end c = search rules
 
-write-u32-requires-2 : tie.Need-write-u32-requires-2
-write-u32-requires-2 c κs = search rules
+write_u32-requires-2 : tie.Need-write_u32-requires-2
+write_u32-requires-2 c κs = search rules
 
-sub-write-u32-2 : tie.Need-overflow-sub-write-u32-2
-sub-write-u32-2 c = search rules
+sub-write_u32-2 : tie.Need-slice_bounds-write_u32-count-2
+sub-write_u32-2 c = search rules
 
-part-write-u32-start-2 : tie.Need-slice-bounds-write-u32-start-2
-part-write-u32-start-2 c = search rules
+part-write_u32-start-2 : tie.Need-slice_bounds-write_u32-start-2
+part-write_u32-start-2 c = search rules
 
-part-write-u32-end-2 : tie.Need-slice-bounds-write-u32-end-2
-part-write-u32-end-2 c = search rules
+part-write_u32-end-2 : tie.Need-slice_bounds-write_u32-end-2
+part-write_u32-end-2 c = search rules
 
-write-u32-requires-3 : tie.Need-write-u32-requires-3
-write-u32-requires-3 c κs = search rules
+write_u32-requires-3 : tie.Need-write_u32-requires-3
+write_u32-requires-3 c κs = search rules
 
-sub-write-u32-3 : tie.Need-overflow-sub-write-u32-3
-sub-write-u32-3 c = search rules
+sub-write_u32-3 : tie.Need-slice_bounds-write_u32-count-3
+sub-write_u32-3 c = search rules
 
-part-write-u32-start-3 : tie.Need-slice-bounds-write-u32-start-3
-part-write-u32-start-3 c = search rules
+part-write_u32-start-3 : tie.Need-slice_bounds-write_u32-start-3
+part-write_u32-start-3 c = search rules
 
-part-write-u32-end-3 : tie.Need-slice-bounds-write-u32-end-3
-part-write-u32-end-3 c = search rules
+part-write_u32-end-3 : tie.Need-slice_bounds-write_u32-end-3
+part-write_u32-end-3 c = search rules
 
-write-u32-requires-4 : tie.Need-write-u32-requires-4
-write-u32-requires-4 c κs = search rules
+write_u32-requires-4 : tie.Need-write_u32-requires-4
+write_u32-requires-4 c κs = search rules
 
-same_length : tie.Need-same-length
+same_length : tie.Need-shape_of-out
 same_length c = search rules
 
-returns-2 : tie.Need-returns-2
+returns-2 : tie.Need-returns
 unfolding wire_bytes
 returns-2 c =
     let start = c.before.before.before.before.before.before.before.before.before.before.before.before.before.before.before.before.before.before in
     let g = start.args.self in
     let xs : List ℕ = start.args.out.now in
-    let p0 = c.before.before.before.before.before.before.before.before.before.before.before.before.before.before.write-u32 in
-    let p1 = c.before.before.before.before.before.before.before.before.before.before.write-u322 in
-    let p2 = c.before.before.before.before.before.before.write-u323 in
-    let p3 = c.before.before.write-u324 in
+    let p0 = c.write_u32 in
+    let p1 = c.write_u32-2 in
+    let p2 = c.write_u32-3 in
+    let p3 = c.write_u32-4 in
     let a : List ℕ = bytes_of 4 g.w0 in
     let b : List ℕ = bytes_of 4 g.w1 in
     let d : List ℕ = bytes_of 4 g.w2 in
     let e : List ℕ = bytes_of 4 g.w3 in
-    let room : 16 ≤ length xs = c.before.before.before.before.before.before.before.before.before.before.before.before.before.before.before.before.if1.false in
+    let room : 16 ≤ length xs = c.if-out-lt16.false in
     let la : length a ≡ 4 = length_bytes_of 4 g.w0 in
     let lb : length b ≡ 4 = length_bytes_of 4 g.w1 in
     let ld : length d ≡ 4 = length_bytes_of 4 g.w2 in
@@ -91,18 +91,18 @@ write_spec =
     tie.close
     (tie.spec
     returns
-    write-u32-requires
-    sub-write-u32
-    part-write-u32-start
-    part-write-u32-end
-    write-u32-requires-2
-    sub-write-u32-2
-    part-write-u32-start-2
-    part-write-u32-end-2
-    write-u32-requires-3
-    sub-write-u32-3
-    part-write-u32-start-3
-    part-write-u32-end-3
-    write-u32-requires-4
+    write_u32-requires
+    sub-write_u32
+    part-write_u32-start
+    part-write_u32-end
+    write_u32-requires-2
+    sub-write_u32-2
+    part-write_u32-start-2
+    part-write_u32-end-2
+    write_u32-requires-3
+    sub-write_u32-3
+    part-write_u32-start-3
+    part-write_u32-end-3
+    write_u32-requires-4
     same_length
     returns-2)

@@ -7,106 +7,106 @@ use Rattle.varint.proofs.ReadLaws.{Running, running, light, room, scaled, stops,
 use Rattle.varint.proofs.read.read_within.Statement.{statement}
 use Rattle.varint.proofs.read.read_within.Tie as tie
 
-abbrev invariant-loop : tie.invariant-loop
+abbrev invariant-loop : tie.invariant-loop-left
 invariant-loop input start end at₀ value₀ weight₀ left₀ at value weight left = Running input start at value weight left
 
-abbrev decreases-loop : tie.decreases-loop
+abbrev decreases-loop : tie.decreases-loop-left
 decreases-loop input start end at₀ value₀ weight₀ left₀ at value weight left = left
 
-loop-holds : tie.Need-loop-init invariant-loop decreases-loop
+loop-holds : tie.Need-loop-left-init invariant-loop decreases-loop
 loop-holds c = running _ _
 
-returns : tie.Need-returns invariant-loop decreases-loop
-returns c = stops c.before.before.loop.invariant _ c.before.before.before.before.requires c.if1.true
+returns : tie.Need-returns-then-end-at invariant-loop decreases-loop
+returns c = stops c.loop-left.invariant _ c.requires c.if-end-at.true
 
-shared-slice-read-wide : tie.Need-shared-slice-read-wide invariant-loop decreases-loop
-shared-slice-read-wide c = omega arith
+shared_slice_read-wide : tie.Need-bounds-input-at invariant-loop decreases-loop
+shared_slice_read-wide c = omega arith
 
-wide-requires : tie.Need-wide-requires invariant-loop decreases-loop
+wide-requires : tie.Need-wide-byte-requires invariant-loop decreases-loop
 wide-requires c κs = search rules
 
-mul-t13 : tie.Need-overflow-mul-t13 invariant-loop decreases-loop
+mul-t13 : tie.Need-overflow_mul-result invariant-loop decreases-loop
 mul-t13 c =
     let turn = c.before.before.before.before.before in
-    omega (arith, room turn.loop.invariant c.before.before.before.before.loop-test.true, scaled turn.loop.invariant c.before.wide.result 127 (omega arith))
+    omega (arith, room turn.loop-left.invariant c.loop-left-test.true, scaled turn.loop-left.invariant c.wide-byte.result 127 (omega arith))
 
-add-t14 : tie.Need-overflow-add-t14 invariant-loop decreases-loop
+add-t14 : tie.Need-overflow_add-result invariant-loop decreases-loop
 add-t14 c =
     let turn = c.before.before.before.before.before in
-    omega (arith, room turn.loop.invariant c.before.before.before.before.loop-test.true, scaled turn.loop.invariant c.before.wide.result 127 (omega arith))
+    omega (arith, room turn.loop-left.invariant c.loop-left-test.true, scaled turn.loop-left.invariant c.wide-byte.result 127 (omega arith))
 
-add-t15 : tie.Need-overflow-add-t15 invariant-loop decreases-loop
+add-t15 : tie.Need-overflow_add-result-then-byte-lt128 invariant-loop decreases-loop
 add-t15 c = omega arith
 
-returns-2 : tie.Need-returns-2 invariant-loop decreases-loop
+returns-2 : tie.Need-returns-then-byte-lt128 invariant-loop decreases-loop
 returns-2 c =
     let turn = c.before.before.before.before.before in
-    last_whole turn.loop.invariant _ _ c.before.before.before.before.before.before.before.requires c.before.before.before.if1.false c.before.wide.ensures.0 c.if2.true (omega (arith, room turn.loop.invariant c.before.before.before.before.loop-test.true, scaled turn.loop.invariant c.before.wide.result 127 (omega arith)))
+    last_whole turn.loop-left.invariant _ _ c.requires c.if-end-at.false c.wide-byte.ensures.0 c.if-byte-lt128.true (omega (arith, room turn.loop-left.invariant c.loop-left-test.true, scaled turn.loop-left.invariant c.wide-byte.result 127 (omega arith)))
 
-mul-value : tie.Need-overflow-mul-value invariant-loop decreases-loop
+mul-value : tie.Need-overflow_mul-value invariant-loop decreases-loop
 mul-value c =
     let turn = c.before.before.before.before.before in
-    omega (arith, room turn.loop.invariant c.before.before.before.before.loop-test.true, scaled turn.loop.invariant (c.before.wide.result - 128) 127 (omega arith))
+    omega (arith, room turn.loop-left.invariant c.loop-left-test.true, scaled turn.loop-left.invariant (c.wide-byte.result - 128) 127 (omega arith))
 
-add-value : tie.Need-overflow-add-value invariant-loop decreases-loop
+add-value : tie.Need-overflow_add-value invariant-loop decreases-loop
 add-value c =
     let turn = c.before.before.before.before.before in
-    omega (arith, room turn.loop.invariant c.before.before.before.before.loop-test.true, scaled turn.loop.invariant (c.before.wide.result - 128) 127 (omega arith))
+    omega (arith, room turn.loop-left.invariant c.loop-left-test.true, scaled turn.loop-left.invariant (c.wide-byte.result - 128) 127 (omega arith))
 
-mul-weight : tie.Need-overflow-mul-weight invariant-loop decreases-loop
-mul-weight c = omega (arith, room c.before.before.before.before.before.loop.invariant c.before.before.before.before.loop-test.true)
+mul-weight : tie.Need-overflow_mul-weight invariant-loop decreases-loop
+mul-weight c = omega (arith, room c.loop-left.invariant c.loop-left-test.true)
 
-add_at : tie.Need-overflow-add-at invariant-loop decreases-loop
+add_at : tie.Need-overflow_add-at invariant-loop decreases-loop
 add_at c = omega arith
 
-sub-left : tie.Need-overflow-sub-left invariant-loop decreases-loop
+sub-left : tie.Need-overflow_sub-left invariant-loop decreases-loop
 sub-left c = omega arith
 
-loop-less : tie.Need-loop-smaller invariant-loop decreases-loop
+loop-less : tie.Need-loop-left-smaller invariant-loop decreases-loop
 loop-less c = omega arith
 
-loop-again : tie.Need-loop-preserved invariant-loop decreases-loop
-loop-again c = runs c.before.before.before.before.before.loop.invariant _ _ c.before.before.before.before.before.before.before.requires c.before.before.before.if1.false c.before.wide.ensures.0 c.before.before.before.before.loop-test.true c.if2.false c.before.wide.ensures.1
+loop-again : tie.Need-loop-left-preserved invariant-loop decreases-loop
+loop-again c = runs c.loop-left.invariant _ _ c.requires c.if-end-at.false c.wide-byte.ensures.0 c.loop-left-test.true c.if-byte-lt128.false c.wide-byte.ensures.1
 
-returns-3 : tie.Need-returns-3 invariant-loop decreases-loop
-returns-3 c = stops c.before.before.loop.invariant _ c.before.before.before.before.requires c.if3.true
+returns-3 : tie.Need-returns-then-end-at-2 invariant-loop decreases-loop
+returns-3 c = stops c.loop-left.invariant _ c.requires c.if-end-at-2.true
 
-shared-slice-read-wide-2 : tie.Need-shared-slice-read-wide-2 invariant-loop decreases-loop
-shared-slice-read-wide-2 c = omega arith
+shared_slice_read-wide-2 : tie.Need-bounds-input-at-2 invariant-loop decreases-loop
+shared_slice_read-wide-2 c = omega arith
 
-wide-requires-2 : tie.Need-wide-requires-2 invariant-loop decreases-loop
+wide-requires-2 : tie.Need-wide-last-requires invariant-loop decreases-loop
 wide-requires-2 c κs = search rules
 
-returns-4 : tie.Need-returns-4 invariant-loop decreases-loop
-returns-4 c = last_broken c.before.before.before.before.before.loop.invariant c.before.before.before.before.loop-test.false _ _ c.before.before.before.before.before.before.before.requires c.before.before.before.if3.false c.before.wide2.ensures.0 c.if4.true
+returns-4 : tie.Need-returns-then-last-gt1 invariant-loop decreases-loop
+returns-4 c = last_broken c.loop-left.invariant c.loop-left-test.false _ _ c.requires c.if-end-at-2.false c.wide-last.ensures.0 c.if-last-gt1.true
 
-mul-t21 : tie.Need-overflow-mul-t21 invariant-loop decreases-loop
+mul-t21 : tie.Need-overflow_mul-result-2 invariant-loop decreases-loop
 mul-t21 c =
     let turn = c.before.before.before.before.before in
-    omega (arith, light turn.loop.invariant, scaled turn.loop.invariant c.before.wide2.result 1 (omega arith))
+    omega (arith, light turn.loop-left.invariant, scaled turn.loop-left.invariant c.wide-last.result 1 (omega arith))
 
-add-t22 : tie.Need-overflow-add-t22 invariant-loop decreases-loop
+add-t22 : tie.Need-overflow_add-result-2 invariant-loop decreases-loop
 add-t22 c =
     let turn = c.before.before.before.before.before in
-    omega (arith, light turn.loop.invariant, scaled turn.loop.invariant c.before.wide2.result 1 (omega arith))
+    omega (arith, light turn.loop-left.invariant, scaled turn.loop-left.invariant c.wide-last.result 1 (omega arith))
 
-add-t23 : tie.Need-overflow-add-t23 invariant-loop decreases-loop
+add-t23 : tie.Need-overflow_add-result-3 invariant-loop decreases-loop
 add-t23 c = omega arith
 
-returns-5 : tie.Need-returns-5 invariant-loop decreases-loop
+returns-5 : tie.Need-returns invariant-loop decreases-loop
 returns-5 c =
     let turn = c.before.before.before.before.before in
-    last_whole turn.loop.invariant _ _ c.before.before.before.before.before.before.before.requires c.before.before.before.if3.false c.before.wide2.ensures.0 (omega arith) (omega (arith, light turn.loop.invariant, scaled turn.loop.invariant c.before.wide2.result 1 (omega arith)))
+    last_whole turn.loop-left.invariant _ _ c.requires c.if-end-at-2.false c.wide-last.ensures.0 (omega arith) (omega (arith, light turn.loop-left.invariant, scaled turn.loop-left.invariant c.wide-last.result 1 (omega arith)))
 
-pub read-within-spec : {M : Type 1} → statement M
-read-within-spec =
+pub read_within_spec : {M : Type 1} → statement M
+read_within_spec =
     tie.close
     (tie.spec
     invariant-loop
     decreases-loop
     loop-holds
     returns
-    shared-slice-read-wide
+    shared_slice_read-wide
     wide-requires
     mul-t13
     add-t14
@@ -120,7 +120,7 @@ read-within-spec =
     loop-less
     loop-again
     returns-3
-    shared-slice-read-wide-2
+    shared_slice_read-wide-2
     wide-requires-2
     returns-4
     mul-t21

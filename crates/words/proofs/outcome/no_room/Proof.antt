@@ -7,17 +7,17 @@ use borrow.Author.Rules.{rules}
 use Rattle.words.proofs.outcome.no_room.Statement.{statement}
 use Rattle.words.proofs.outcome.no_room.Tie as tie
 
-room-number-requires : tie.Need-room-number-requires
-room-number-requires c κs = search rules
+room_number-requires : tie.Need-room_number-requires
+room_number-requires c κs = search rules
 
 refusal-requires : tie.Need-refusal-requires
 refusal-requires c κs = search rules
 
 returns : tie.Need-returns
 returns c =
-    let short = c.before.before.args.short in
+    let short = c.args.short in
     c.refusal.ensures
-    ∙ ap (λ (which : ℕ). outcome_of 2 17 0 (which ∷ short.needed ∷ short.given ∷ [])) c.before.room-number.ensures
+    ∙ ap (λ (which : ℕ). outcome_of 2 17 0 (which ∷ short.needed ∷ short.given ∷ [])) c.room_number.ensures
 
-pub no-room-spec : {M : Type 1} → statement M
-no-room-spec = tie.close (tie.spec room-number-requires refusal-requires returns)
+pub no_room_spec : {M : Type 1} → statement M
+no_room_spec = tie.close (tie.spec room_number-requires refusal-requires returns)
