@@ -36,7 +36,7 @@ pub fn checksum(bytes: &[u8]) -> u64
 }
 
 // A checksum of bytes that come in several stretches.
-#[derive(Drop)]
+#[derive(Clone, Copy)]
 pub struct Crc64 {
     register: u64,
 }

@@ -19,7 +19,7 @@ fn stepped(r: u64) -> u64
 }
 
 // A register and a power of x.
-#[derive(Drop)]
+#[derive(Clone, Copy)]
 struct Turn {
     register: u64,
     power: u64,

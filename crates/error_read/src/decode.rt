@@ -8,7 +8,7 @@ use error_tree::table::{ATTRIBUTE_ENTRY, ERROR_ENTRY};
 use error_walk::walk::{Walked, count_error};
 use words::outcome::{NoRoom, Room};
 
-#[derive(Drop)]
+#[derive(Clone, Copy)]
 pub enum Decoded {
     // How many errors and attributes.
     Read(usize, usize),

@@ -14,7 +14,7 @@ use error_tree::table::{ATTRIBUTE_ENTRY, ERROR_ENTRY};
 use field::field::Field;
 
 // Of the last fields numbered 1 and 2: the varint, and where what comes behind it begins.
-#[derive(Drop)]
+#[derive(Clone, Copy)]
 pub(crate) struct Own {
     pub(crate) value1: u64,
     pub(crate) place1: u64,
@@ -23,7 +23,7 @@ pub(crate) struct Own {
 }
 
 // Which error and which word of the attributes come next.
-#[derive(Drop)]
+#[derive(Clone, Copy)]
 pub(crate) struct Filled {
     pub(crate) next: usize,
     pub(crate) row: usize,

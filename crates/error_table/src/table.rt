@@ -7,7 +7,7 @@ ghost use Rattle.error_table.specs.Statement.{ChecksTables};
 use error_tree::refusal::ErrorRefusal;
 use error_tree::table::{ATTRIBUTE_ENTRY, ERROR_ENTRY};
 
-#[derive(Drop)]
+#[derive(Clone, Copy)]
 pub enum Verdict {
     Passed,
     Failed(ErrorRefusal),

@@ -4,7 +4,7 @@ ghost use Rattle.error_tree.specs.Paper.{paper};
 
 use words::outcome::{NoRoom, Outcome, no_room, refusal};
 
-#[derive(Drop)]
+#[derive(Clone, Copy)]
 pub enum ErrorRefusal {
     // 22: no whole field of the message begins here.
     BadMessage { place: usize },

@@ -11,7 +11,7 @@ use field::field::Field;
 // How many levels may lie below the outermost error.
 const LEVELS: u64 = 15;
 
-#[derive(Drop)]
+#[derive(Clone, Copy)]
 pub enum Walked {
     // How many errors and attributes there are.
     Counted(usize, usize),

@@ -21,7 +21,7 @@ const MOST_BYTES: u64 = 0xffff_ffff_ffff_ffff;
 // A sum for each depth up to one more than the deepest, 16.
 pub(crate) const SUMS: usize = 18;
 
-#[derive(Drop)]
+#[derive(Clone, Copy)]
 pub enum Measured {
     Size(u64),
     Refused(ErrorRefusal),

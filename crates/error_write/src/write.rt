@@ -19,7 +19,7 @@ use varint::write::{varint_size, write_varint};
 use word_write::write_bytes;
 use words::outcome::{NoRoom, Room};
 
-#[derive(Drop)]
+#[derive(Clone, Copy)]
 pub enum Encoded {
     Written(usize),
     Refused(ErrorRefusal),

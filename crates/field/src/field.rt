@@ -6,7 +6,7 @@ ghost use Rattle.field.specs.Statement.{ReadsField};
 use varint::read::{Varint, read_varint};
 
 // What is read of a payload.
-#[derive(Drop)]
+#[derive(Clone, Copy)]
 enum Payload {
     // The varint that it begins with, where what comes behind that varint begins, and where the payload ends.
     Held(u64, usize, usize),
@@ -14,7 +14,7 @@ enum Payload {
 }
 
 // What is read of a field.
-#[derive(Drop)]
+#[derive(Clone, Copy)]
 pub enum Field {
     // Number, wire type, the payload's varint, where what comes behind that begins, and where the field ends.
     Whole(u64, u64, u64, usize, usize),

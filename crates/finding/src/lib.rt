@@ -12,7 +12,7 @@ use words::outcome::{ACCEPTED, MORE, Outcome, REFUSED};
 pub const NOT_PLAIN: u64 = 3;
 
 // A field or a length, by the name that is printed.
-#[derive(Drop)]
+#[derive(Clone, Copy)]
 pub enum Field {
     FixedHeader,
     Signature,
@@ -36,14 +36,14 @@ pub enum Field {
 }
 
 // The one right value or the largest allowed; or, where the allowed ones have a gap or depend on the mode, all of them.
-#[derive(Drop)]
+#[derive(Clone, Copy)]
 pub enum Wanted {
     Number(u64),
     LiveTypes,
     ValueTypes,
 }
 
-#[derive(Drop)]
+#[derive(Clone, Copy)]
 pub enum Finding {
     // Accepted, and a rowset in the plain form.
     Fine,

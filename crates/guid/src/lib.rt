@@ -12,7 +12,7 @@ use word_read::read_u32;
 use word_write::write_u32;
 
 // The words in wire order.
-#[derive(Drop)]
+#[derive(Clone, Copy)]
 pub struct Guid {
     pub w0: u32,
     pub w1: u32,
@@ -24,7 +24,7 @@ pub struct Guid {
 pub type FourWords = [u32; 4];
 
 // Bytes 0 to 7 and bytes 8 to 15, as `TGuid` carries them.
-#[derive(Drop)]
+#[derive(Clone, Copy)]
 pub struct Halves(pub u64, pub u64);
 
 impl Guid {

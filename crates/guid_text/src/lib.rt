@@ -12,7 +12,7 @@ use words::outcome::{NoRoom, Room};
 mod hex;
 
 // What `print` answers: how many bytes it wrote, or 17.
-#[derive(Drop)]
+#[derive(Clone, Copy)]
 pub enum Printed {
     Written(usize),
     Refused(NoRoom),
@@ -20,7 +20,7 @@ pub enum Printed {
 
 // Why a text is refused: a field has no byte, a field has more than eight, a byte is no hex digit, or the fields are
 // not four.
-#[derive(Drop)]
+#[derive(Clone, Copy)]
 pub enum Reason {
     Empty,
     TooLong,
@@ -29,7 +29,7 @@ pub enum Reason {
 }
 
 // What `parse` answers: the GUID, or 16 with the place where the text goes wrong and why.
-#[derive(Drop)]
+#[derive(Clone, Copy)]
 pub enum Parsed {
     Read(Guid),
     Bad { position: usize, reason: Reason },

@@ -5,7 +5,7 @@
 ghost use Rattle.input.specs.Statement.{Inside};
 
 // What `read_whole` answers: how many bytes it put at the buffer's front, or that a read failed.
-#[derive(Drop)]
+#[derive(Clone, Copy)]
 pub enum Input {
     Bytes(usize),
     Failed,

@@ -32,7 +32,7 @@ const MAX_PART_COUNT: u32 = 2_048;
 const PART_WORDS: usize = 6_144;
 
 // What `list` answers: how many bytes of text it wrote, or 17.
-#[derive(Drop)]
+#[derive(Clone, Copy)]
 pub enum Listed {
     Written(usize),
     Refused(NoRoom),
@@ -40,7 +40,7 @@ pub enum Listed {
 
 // One step of the walk: a packet's lines end at `end`, and the next packet begins at `next`; or the last line ends
 // there.
-#[derive(Drop)]
+#[derive(Clone, Copy)]
 enum Stepped {
     Packet { next: usize, end: usize },
     Last(usize),

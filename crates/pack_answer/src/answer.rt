@@ -5,7 +5,7 @@ ghost use Rattle.pack_answer.specs.Paper.{paper_packed};
 use wire::error::WireError;
 use words::outcome::{Outcome, taken};
 
-#[derive(Drop)]
+#[derive(Clone, Copy)]
 pub enum Packed {
     // So many bytes of the second area are filled.
     Filled(u64),

@@ -50,7 +50,7 @@ pub const ENTRY_WORDS: usize = 3;
 // The length word of a null part, whose offset is 0.
 pub const NULL_LENGTH: u64 = 0xffff_ffff_ffff_ffff;
 
-#[derive(Drop)]
+#[derive(Clone, Copy)]
 pub enum PacketType {
     Message,
     Ack,
@@ -58,25 +58,25 @@ pub enum PacketType {
 }
 
 // Whom the caller reads from or writes to. No live peer may send an SslAck; an archive still holds some.
-#[derive(Drop)]
+#[derive(Clone, Copy)]
 pub enum Mode {
     Archive,
     Live,
 }
 
 // A type by its number: one of the three, or none.
-#[derive(Drop)]
+#[derive(Clone, Copy)]
 pub enum TypeFound {
     Known(PacketType),
     Unknown,
 }
 
 // A set of bits; an unknown bit is kept.
-#[derive(Drop)]
+#[derive(Clone, Copy)]
 pub struct PacketFlags(pub u16);
 
 // A packet's header; how many parts it has, which stand in the lent table.
-#[derive(Drop)]
+#[derive(Clone, Copy)]
 pub struct Packet {
     pub packet_type: PacketType,
     pub flags: PacketFlags,
@@ -85,7 +85,7 @@ pub struct Packet {
 }
 
 // After the Rust's `PacketError`; `NoRoom` and `BadTable` are the lent tables', `RetiredType` is the live mode's.
-#[derive(Drop)]
+#[derive(Clone, Copy)]
 pub enum PacketError {
     Signature(u32),
     UnknownType(u16),

@@ -7,7 +7,7 @@ ghost use Rattle.packet_answer.specs.Statement.{TellsDecoded};
 use packet::{Packet, PacketError, type_number};
 use words::outcome::{Outcome, unfinished};
 
-#[derive(Drop)]
+#[derive(Clone, Copy)]
 pub enum Decoded {
     Read { packet: Packet, consumed: usize },
     More,

@@ -18,13 +18,13 @@ use packet::{
 // The largest number that a refusal carries in 32 bits.
 const MAX_CARRIED: u32 = 0xffff_ffff;
 
-#[derive(Drop)]
+#[derive(Clone, Copy)]
 pub enum Validated {
     Valid,
     Refused(PacketError),
 }
 
-#[derive(Drop)]
+#[derive(Clone, Copy)]
 pub enum Measured {
     Size(usize),
     Refused(PacketError),

@@ -28,33 +28,33 @@ use words::outcome::{NoRoom, Room};
 // How many parts `decode` accepts in one packet.
 pub const DEFAULT_MAX_PART_COUNT: u32 = 0x1_0000;
 
-#[derive(Drop)]
+#[derive(Clone, Copy)]
 enum Verdict {
     Passed,
     Failed(u64),
 }
 
-#[derive(Drop)]
+#[derive(Clone, Copy)]
 enum Fixed {
     More,
     Refused(PacketError),
     Header(Packet),
 }
 
-#[derive(Drop)]
+#[derive(Clone, Copy)]
 enum Sizes {
     TooLarge { index: usize, size: u32 },
     Payload(u64),
 }
 
-#[derive(Drop)]
+#[derive(Clone, Copy)]
 enum Variable {
     More,
     Refused(PacketError),
     Whole(usize),
 }
 
-#[derive(Drop)]
+#[derive(Clone, Copy)]
 enum Parts {
     Failing {
         index: usize,

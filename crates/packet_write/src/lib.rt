@@ -25,7 +25,7 @@ use packet_check::Measured;
 use word_write::{write_u16, write_u32, write_u64};
 use words::outcome::{NoRoom, Room};
 
-#[derive(Drop)]
+#[derive(Clone, Copy)]
 pub enum Encoded {
     Written(usize),
     Refused(PacketError),

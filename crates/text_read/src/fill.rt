@@ -13,14 +13,14 @@ use wire::layout::{ENTRY_WORDS, NULL_ROW_MARKER};
 use word_read::read_u64;
 
 // Where a piece ends, and the number that it spells.
-#[derive(Drop)]
+#[derive(Clone, Copy)]
 pub(crate) struct Number {
     pub(crate) next: usize,
     pub(crate) value: u64,
 }
 
 // Id, aggregate and type of a value, and where its content begins.
-#[derive(Drop)]
+#[derive(Clone, Copy)]
 pub(crate) struct Head {
     pub(crate) next: usize,
     pub(crate) id: u64,
@@ -29,14 +29,14 @@ pub(crate) struct Head {
 }
 
 // Where a blob's text ends, and the byte of the area behind the blob.
-#[derive(Drop)]
+#[derive(Clone, Copy)]
 pub(crate) struct Copied {
     pub(crate) next: usize,
     pub(crate) used: usize,
 }
 
 // Where a value's text ends, the last two words of its entry, and the byte of the area behind its blob.
-#[derive(Drop)]
+#[derive(Clone, Copy)]
 pub(crate) struct Payload {
     pub(crate) next: usize,
     pub(crate) used: usize,
@@ -45,7 +45,7 @@ pub(crate) struct Payload {
 }
 
 // Where the text behind a value goes on, the byte of the area behind its blob, and whether its line has ended.
-#[derive(Drop)]
+#[derive(Clone, Copy)]
 pub(crate) struct Value {
     pub(crate) next: usize,
     pub(crate) used: usize,
@@ -53,7 +53,7 @@ pub(crate) struct Value {
 }
 
 // Where the next line begins, the next words of the value table and of the area, and the row's own word.
-#[derive(Drop)]
+#[derive(Clone, Copy)]
 pub(crate) struct Line {
     pub(crate) next: usize,
     pub(crate) k: usize,

@@ -28,28 +28,28 @@ const ZEROS_AND_ONE: u64 = 0x3130_3030_3030_3030;
 const TOO_MANY_VALUES: u64 = MAX_VALUES_PER_ROW + 1;
 
 // Where the next piece begins, or the place of 19.
-#[derive(Drop)]
+#[derive(Clone, Copy)]
 pub(crate) enum Step {
     To(usize),
     Bad(usize),
 }
 
 // The type that a value's head names, and where its content begins.
-#[derive(Drop)]
+#[derive(Clone, Copy)]
 pub(crate) enum Head {
     Typed { next: usize, kind: u64 },
     Headless(usize),
 }
 
 // A blob's bytes up to the tab or line feed behind them.
-#[derive(Drop)]
+#[derive(Clone, Copy)]
 pub(crate) enum Blob {
     Ends { next: usize, length: usize },
     Fails(TextError),
 }
 
 // A value with the byte behind it, the rowset's size with it, and whether that byte ended the line.
-#[derive(Drop)]
+#[derive(Clone, Copy)]
 pub(crate) enum Value {
     Whole {
         next: usize,
@@ -61,7 +61,7 @@ pub(crate) enum Value {
 }
 
 // A line: where the next begins, how many values and blob bytes it has, and the rowset's size with it.
-#[derive(Drop)]
+#[derive(Clone, Copy)]
 pub(crate) enum Line {
     Ended {
         next: usize,

@@ -4,7 +4,7 @@ ghost use Rattle.text_walk.specs.Statement.{Counts};
 use super::check::{Line, check_line};
 use super::error::TextError;
 
-#[derive(Drop)]
+#[derive(Clone, Copy)]
 pub enum Walked {
     Counted {
         rows: usize,

@@ -3,7 +3,7 @@
 ghost use Rattle.std.specs.Prelude.{◌≡◌, ◌≤◌, ◌<◌, length};
 ghost use Rattle.varint.specs.Statement.{ReadsVarint};
 
-#[derive(Drop)]
+#[derive(Clone, Copy)]
 pub enum Varint {
     // The value, and where the varint ends.
     Whole(u64, usize),

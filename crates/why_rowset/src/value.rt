@@ -21,7 +21,7 @@ const TYPE_AT: usize = 2;
 
 const LENGTH_AT: usize = 4;
 
-#[derive(Drop)]
+#[derive(Clone, Copy)]
 pub(crate) enum Checked {
     // The header, and where the next value begins.
     Passed(Header, usize),

@@ -8,7 +8,7 @@ use wire::error::WireError;
 use wire::layout::{MAX_ROWS_PER_ROWSET, MAX_VALUES_PER_ROW, NULL_ROW_MARKER, WORD_SIZE};
 use word_read::read_u64;
 
-#[derive(Drop)]
+#[derive(Clone, Copy)]
 pub(crate) enum Walked {
     // The next offset, and what broke the plain form first so far.
     At(usize, Finding),

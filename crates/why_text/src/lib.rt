@@ -13,7 +13,7 @@ mod text;
 pub const LINE_ROOM: usize = 128;
 
 // How many bytes of text were written, or 17.
-#[derive(Drop)]
+#[derive(Clone, Copy)]
 pub enum Line {
     Written(usize),
     Refused(NoRoom),

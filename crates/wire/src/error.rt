@@ -5,7 +5,7 @@ ghost use Rattle.wire.specs.Paper.{paper};
 
 use words::outcome::{NoRoom, Outcome, no_room, refusal};
 
-#[derive(Drop)]
+#[derive(Clone, Copy)]
 pub enum WireError {
     Truncated { offset: usize, needed: usize },
     TooManyRows { count: u64 },

@@ -20,7 +20,7 @@ pub const ANY: u64 = 17;
 
 pub const COMPOSITE: u64 = 18;
 
-#[derive(Drop)]
+#[derive(Clone, Copy)]
 pub enum Kind {
     // No payload.
     Null,

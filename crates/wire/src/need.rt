@@ -3,7 +3,7 @@ ghost use Rattle.wire.specs.Need.{Needs};
 
 use super::error::WireError;
 
-#[derive(Drop)]
+#[derive(Clone, Copy)]
 pub enum Needed {
     Enough,
     Short(WireError),

@@ -18,7 +18,7 @@ use wire::layout::{
 };
 use words::outcome::{Outcome, taken};
 
-#[derive(Drop)]
+#[derive(Clone, Copy)]
 pub enum Measured {
     Size(usize),
     Refused(WireError),

@@ -10,7 +10,7 @@ use wire::error::WireError;
 use wire::kind::{BOOLEAN, Kind, kind_of};
 use wire::layout::{ENTRY_WORDS, MAX_ROWS_PER_ROWSET, values_in};
 
-#[derive(Drop)]
+#[derive(Clone, Copy)]
 pub(crate) enum Verdict {
     Passed,
     Failed(WireError),

@@ -11,7 +11,7 @@ use wire_value::value::{Header, read_header};
 use word_read::read_u64;
 
 // The last two words of a value's entry, and where the next value begins.
-#[derive(Drop)]
+#[derive(Clone, Copy)]
 pub(crate) struct Payload {
     pub(crate) fourth: u64,
     pub(crate) fifth: u64,

@@ -14,7 +14,7 @@ use wire::layout::{MAX_ROWSET_SIZE, WORD_SIZE, padded, values_in};
 use wire_value::value::{Header, read_header};
 use word_read::read_u64;
 
-#[derive(Drop)]
+#[derive(Clone, Copy)]
 pub(crate) enum Plain {
     // All values up to this offset are plain.
     Till(usize),

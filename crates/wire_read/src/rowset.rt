@@ -9,7 +9,7 @@ use wire::layout::ENTRY_WORDS;
 use word_read::read_u64;
 use words::outcome::{NoRoom, Room};
 
-#[derive(Drop)]
+#[derive(Clone, Copy)]
 pub enum Decoded {
     Read { rows: usize, values: usize },
     Refused(WireError),

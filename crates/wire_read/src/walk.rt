@@ -8,7 +8,7 @@ use wire::need::{Needed, need_at};
 use wire_value::value::{Checked, check_value};
 use word_read::read_u64;
 
-#[derive(Drop)]
+#[derive(Clone, Copy)]
 pub(crate) enum Walked {
     // The next offset, and how many values were passed.
     At(usize, usize),

@@ -20,7 +20,7 @@ pub struct Reader<'a> {
     pub offset: usize,
 }
 
-#[derive(Drop)]
+#[derive(Clone, Copy)]
 pub enum ReadWord {
     // The word, and where the next read begins.
     Got(u64, usize),

@@ -19,7 +19,7 @@ use word_read::read_u64;
 use words::outcome::{ACCEPTED, Outcome};
 
 // Blobs as offset and length.
-#[derive(Drop)]
+#[derive(Clone, Copy)]
 pub enum Value {
     Null,
     Int64(i64),
@@ -31,7 +31,7 @@ pub enum Value {
     Composite(usize, usize),
 }
 
-#[derive(Drop)]
+#[derive(Clone, Copy)]
 pub struct UnversionedValue {
     // An index into the rowset descriptor's name table.
     pub id: u16,
@@ -43,13 +43,13 @@ pub struct UnversionedValue {
     pub next: usize,
 }
 
-#[derive(Drop)]
+#[derive(Clone, Copy)]
 pub enum ReadValue {
     Got(UnversionedValue),
     Refused(WireError),
 }
 
-#[derive(Drop)]
+#[derive(Clone, Copy)]
 pub struct Header {
     pub id: u16,
     pub kind: u8,
@@ -57,7 +57,7 @@ pub struct Header {
     pub length: u32,
 }
 
-#[derive(Drop)]
+#[derive(Clone, Copy)]
 pub enum Checked {
     // The header, and where the next value begins.
     Passed(Header, usize),
@@ -78,7 +78,7 @@ pub fn read_header(input: &[u8], at: usize) -> Header
 }
 
 // What is to stand behind a header.
-#[derive(Drop)]
+#[derive(Clone, Copy)]
 enum Expected {
     // So many bytes.
     Payload(usize),

@@ -18,7 +18,7 @@ use wire_check::size::{Measured, encoded_size};
 use word_write::{write_bytes, write_u64, write_zeros};
 use words::outcome::{NoRoom, Outcome, Room, taken};
 
-#[derive(Drop)]
+#[derive(Clone, Copy)]
 pub enum Encoded {
     Written(usize),
     Refused(WireError),

@@ -11,7 +11,7 @@ pub const MORE: u64 = 1;
 pub const REFUSED: u64 = 2;
 
 #[repr(C)]
-#[derive(Drop)]
+#[derive(Clone, Copy)]
 pub struct Outcome {
     // 0 accepted, 1 need-more, 2 refused
     pub kind: u64,
@@ -30,7 +30,7 @@ pub struct Outcome {
 }
 
 // What 17 says ran short.
-#[derive(Drop)]
+#[derive(Clone, Copy)]
 pub enum Room {
     Parts,
     Rows,
@@ -42,7 +42,7 @@ pub enum Room {
 }
 
 // 17: what ran short, how much of it is needed and how much was lent: whole entries, or bytes of an output.
-#[derive(Drop)]
+#[derive(Clone, Copy)]
 pub struct NoRoom {
     pub room: Room,
     pub needed: u64,

@@ -19,14 +19,14 @@ const DEPTH: usize = 64;
 const WORDS: usize = 4;
 
 // 20 and 21, with the place: the failing token's start, or the input's length.
-#[derive(Drop)]
+#[derive(Clone, Copy)]
 pub enum Fault {
     BadYson(usize),
     TooDeep(usize),
 }
 
 // How many items the outer map has; or 20, 21; or 17.
-#[derive(Drop)]
+#[derive(Clone, Copy)]
 pub enum Listed {
     Items(usize),
     Broken(Fault),
@@ -34,14 +34,14 @@ pub enum Listed {
 }
 
 // Where it ends; where the pairs of its map begin and how many they are, both 0 where it is no map.
-#[derive(Drop)]
+#[derive(Clone, Copy)]
 pub(crate) enum Read {
     Ended(usize, usize, usize),
     Refused(Fault),
 }
 
 // Where a pair's key ends, and where its value ends.
-#[derive(Drop)]
+#[derive(Clone, Copy)]
 pub(crate) enum PairRead {
     Whole(usize, usize),
     Failed(Fault),

@@ -8,7 +8,7 @@ ghost use Rattle.yson_token.specs.Statement.{ReadsByte, Finds, FindsScalar, Find
 use varint::read::{Varint, read_varint};
 
 // Where a whole token ends, if one is there.
-#[derive(Drop)]
+#[derive(Clone, Copy)]
 pub enum Found {
     Whole(usize),
     Nothing,

@@ -30,7 +30,7 @@ decreases-loop register bytes out₀ short more first x₀ kept₀ i₀ out x ke
 
 returns : tie.Need-returns-then-bytes-eq0 invariant-loop decreases-loop
 returns c =
-    let first = c.before.before.before in
+    let first = c in
     record {
       folded = nothing first.args.register first.args.bytes.now c.if-bytes-eq0.true first.ranges.register.fits;
       copied = none_copied first.args.bytes.now first.args.out.now c.if-bytes-eq0.true;
@@ -48,7 +48,7 @@ room s out n h e = le_trans h (ltb-false (length out) (length s) e)
 
 first_word-requires : tie.Need-first_word-first-requires invariant-loop decreases-loop
 first_word-requires c κs =
-    let first = c.before.before.before.before in
+    let first = c in
     let s : List ℕ = first.args.bytes.now in
     let there : (length s - 1) % 8 + 1 ≤ length s = first_there (length s) c.if-bytes-eq0.false in
     let few : (length s - 1) % 8 < 8 = mod-lt (length s - 1) (lit< tt) in
@@ -74,8 +74,8 @@ add-i c = search rules
 
 loop-holds : tie.Need-loop-i-init invariant-loop decreases-loop
 loop-holds c =
-    let known = c.before.before.before.before.before.before in
-    let first = known.before in
+    let known = c in
+    let first = known in
     let some = c.if-bytes-eq0.false in
     let q : ℕ = first.args.register in
     let s : List ℕ = first.args.bytes.now in
@@ -100,7 +100,7 @@ sub-if2 c = search rules
 
 same_length : tie.Need-shape_of-out-then-bytes-i-lt8 invariant-loop decreases-loop
 same_length c =
-    let first = c.before.before.before.before.before.before.before.before.before.before in
+    let first = c in
     let s : List ℕ = first.args.bytes.now in
     let out : List ℕ = first.args.out.now in
     let there : (length s - 1) % 8 + 1 ≤ length s = first_there (length s) c.if-bytes-eq0.false in
@@ -111,8 +111,8 @@ same_length c =
 returns-2 : tie.Need-returns-then-bytes-i-lt8 invariant-loop decreases-loop
 returns-2 c =
     let at = c.loop-i in
-    let known = c.before.before.before.before.before.before.before.before.before in
-    let first = known.before in
+    let known = c in
+    let first = known in
     let s : List ℕ = first.args.bytes.now in
     let out : List ℕ = first.args.out.now in
     let n : ℕ = length s in
@@ -121,7 +121,7 @@ returns-2 c =
     let loaded = c.first_word-first.ensures in
     let all = none_left n at.i c.if-bytes-i-lt8.true at.invariant.1 in
     record {
-      folded = ended s at.i at.x at.auto c.near.ensures at.invariant.2 at.invariant.3 all;
+      folded = ended s at.i at.x at.kept c.near.ensures at.invariant.2 at.invariant.3 all;
       copied =
           all_so_far (ltb (length out) n) s ((n - 1) % 8) bytes (mod-lt (n - 1) (lit< tt)) there loaded.0 out
           (ltb-false (length out) n) (ltb-true (length out) n) loaded.1 at.i at.invariant.4 all;
@@ -141,8 +141,8 @@ loop-less c = search rules
 loop-again : tie.Need-loop-i-preserved invariant-loop decreases-loop
 loop-again c =
     let at = c.loop-i in
-    let known = c.before.before.before.before.before.before.before.before.before.before.before.before.before in
-    let first = known.before in
+    let known = c in
+    let first = known in
     let s : List ℕ = first.args.bytes.now in
     let bytes : Bytes s = λ i. (known.shared_slice_known-1.given i).fits in
     let short : Bool = ltb (length first.args.out.now) (length s) in
@@ -151,7 +151,7 @@ loop-again c =
       search rules,
       next_whole (length s) at.i more at.invariant.1,
       lit< tt,
-      again s at.i at.x at.auto c.near.ensures at.invariant.2 at.invariant.3 loaded.0 bytes more,
+      again s at.i at.x at.kept c.near.ensures at.invariant.2 at.invariant.3 loaded.0 bytes more,
       next_so_far short s at.i _ at.out at.invariant.4 loaded.0 bytes more loaded.1,
     )
 

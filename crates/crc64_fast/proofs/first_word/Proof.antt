@@ -17,7 +17,7 @@ returns c =
 
 slice_aggregate-read_u64 : tie.Need-slice_bounds-read_u64-end
 slice_aggregate-read_u64 c =
-    let start = c.before.before.before.before in
+    let start = c in
     sym (length-take-le start.args.count start.args.bytes.now start.requires.1)
 
 read_u64-requires-2 : tie.Need-read_u64-word-requires
@@ -25,7 +25,7 @@ read_u64-requires-2 c κs = search rules
 
 write_low-requires : tie.Need-write_low-requires
 write_low-requires c κs =
-    let start = c.before.before.before.before.before.before in
+    let start = c in
     (start.requires.0, start.requires.2 c.if-short.false)
 
 same_length : tie.Need-shape_of-out

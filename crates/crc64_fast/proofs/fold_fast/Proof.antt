@@ -15,7 +15,7 @@ swap_bytes-requires-2 c κs = search rules
 
 returns : tie.Need-returns
 returns c =
-    let first = c.before.before.before.before in
+    let first = c in
     by_value first.args.register first.args.bytes.now c.swap_bytes.ensures c.fold_held.ensures
     c.swap_bytes-2.ensures first.ranges.register.fits
 

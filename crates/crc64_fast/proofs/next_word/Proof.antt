@@ -32,7 +32,7 @@ same_length c = search rules
 
 returns-2 : tie.Need-returns
 returns-2 c =
-    let start = c.before.before.before.before.before.before.before.before in
+    let start = c in
     let at : ℕ = start.args.i in
     let out : List ℕ = start.args.out.now in (
       c.read_u64-word.ensures,

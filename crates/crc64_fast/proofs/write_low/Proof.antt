@@ -27,7 +27,7 @@ same_length c = search rules
 
 returns : tie.Need-returns-then-count-eq8 invariant-loop decreases-loop
 returns c =
-    let start = c.before.before.before.before.before.before in
+    let start = c in
     let eight : start.args.count ≡ 8 = c.if-count-eq8.true in
     c.write_u64.ensures
     ∙ fitted_fits (bytes_of 8 start.args.word) start.args.out.now (omega (arith, length_bytes_of 8 start.args.word))
@@ -42,7 +42,7 @@ cast-out c = search rules
 
 slice_write-out : tie.Need-bounds-out-i invariant-loop decreases-loop
 slice_write-out c =
-    let start = c.before.before.before.before in
+    let start = c in
     let at = c.loop-i in
     omega (arith, low_length start.args.word at.i start.args.out.now at.out at.invariant.2 (omega arith))
 
@@ -54,7 +54,7 @@ loop-less c = omega arith
 
 loop-again : tie.Need-loop-i-preserved invariant-loop decreases-loop
 loop-again c =
-    let start = c.before.before.before.before in
+    let start = c in
     let at = c.loop-i in (
       omega arith,
       low_left start.args.word at.i at.left at.invariant.1,
@@ -63,13 +63,13 @@ loop-again c =
 
 same_length-2 : tie.Need-shape_of-out invariant-loop decreases-loop
 same_length-2 c =
-    let start = c.before.before.before.before in
+    let start = c in
     let at = c.loop-i in
     low_length start.args.word at.i start.args.out.now at.out at.invariant.2 (omega arith)
 
 returns-2 : tie.Need-returns invariant-loop decreases-loop
 returns-2 c =
-    let start = c.before.before.before.before in
+    let start = c in
     let at = c.loop-i in
     let all : at.i ≡ start.args.count = omega arith in
     at.invariant.2 ∙ ap (λ (k : ℕ). over (bytes_of k start.args.word) start.args.out.now) all

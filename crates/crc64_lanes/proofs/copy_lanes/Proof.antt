@@ -6,50 +6,50 @@ use borrow.Author.Rules.{rules}
 use Rattle.crc64_lanes.proofs.copy_lanes.Statement.{statement}
 use Rattle.crc64_lanes.proofs.copy_lanes.Tie as tie
 
-copy-held-requires : tie.Need-copy-held-requires
-copy-held-requires c κs = search rules
+copy_held-requires : tie.Need-copy_held-requires
+copy_held-requires c κs = search rules
 
-same_length : tie.Need-same-length
+same_length : tie.Need-shape_of-out-then-bytes-lt-LANES_FROM
 same_length c = search rules
 
-returns : tie.Need-returns
+returns : tie.Need-returns-then-bytes-lt-LANES_FROM
 returns c = search rules
 
-fold-lanes-requires : tie.Need-fold-lanes-requires
-fold-lanes-requires c κs = search rules
+fold_lanes-requires : tie.Need-fold_lanes-requires
+fold_lanes-requires c κs = search rules
 
-returns-2 : tie.Need-returns-2
+returns-2 : tie.Need-returns-then-out-bytes
 returns-2 c =
-    let a = c.before.before.before.before.before.args in
+    let a = c.args in
     record {
-      folded = c.fold-lanes.ensures;
-      copied = sym (fitted_short a.bytes.now a.out.now c.before.if2.true);
+      folded = c.fold_lanes.ensures;
+      copied = sym (fitted_short a.bytes.now a.out.now c.if-out-bytes.true);
     }
 
 walk-requires : tie.Need-walk-requires
 walk-requires c κs = search rules
 
-same-length-2 : tie.Need-same-length-2
-same-length-2 c = search rules
+same_length-2 : tie.Need-shape_of-out
+same_length-2 c = search rules
 
-returns-3 : tie.Need-returns-3
+returns-3 : tie.Need-returns
 returns-3 c =
-    let a = c.before.before.before.before.before.before.before.before.args in
-    let done = c.before.before.walk.ensures in
+    let a = c.args in
+    let done = c.walk.ensures in
     record {
       folded = done.0;
-      copied = done.1 refl ∙ sym (fitted_fits a.bytes.now a.out.now c.before.before.before.before.if2.false);
+      copied = done.1 refl ∙ sym (fitted_fits a.bytes.now a.out.now c.if-out-bytes.false);
     }
 
-pub copy-lanes-spec : {M : Type 1} → statement M
-copy-lanes-spec =
+pub copy_lanes_spec : {M : Type 1} → statement M
+copy_lanes_spec =
     tie.close
     (tie.spec
-    copy-held-requires
+    copy_held-requires
     same_length
     returns
-    fold-lanes-requires
+    fold_lanes-requires
     returns-2
     walk-requires
-    same-length-2
+    same_length-2
     returns-3)

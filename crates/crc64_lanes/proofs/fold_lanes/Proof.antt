@@ -7,21 +7,21 @@ use borrow.Author.Rules.{rules}
 use Rattle.crc64_lanes.proofs.fold_lanes.Statement.{statement}
 use Rattle.crc64_lanes.proofs.fold_lanes.Tie as tie
 
-fold-held-requires : tie.Need-fold-held-requires
-fold-held-requires c κs = search rules
+fold_held-requires : tie.Need-fold_held-requires
+fold_held-requires c κs = search rules
 
-returns : tie.Need-returns
+returns : tie.Need-returns-then-bytes-lt-LANES_FROM
 returns c = search rules
 
-slice-aggregate-walk : tie.Need-slice-aggregate-walk
-slice-aggregate-walk c = search rules
+slice_aggregate-walk : tie.Need-slice_bounds-walk-end
+slice_aggregate-walk c = search rules
 
 walk-requires : tie.Need-walk-requires
 walk-requires c κs = (search rules, omega arith, λ e. absurd (true≢false (sym e)))
 
-returns-2 : tie.Need-returns-2
+returns-2 : tie.Need-returns
 returns-2 c = search rules
 
-pub fold-lanes-spec : {M : Type 1} → statement M
-fold-lanes-spec =
-    tie.close (tie.spec fold-held-requires returns slice-aggregate-walk walk-requires returns-2)
+pub fold_lanes_spec : {M : Type 1} → statement M
+fold_lanes_spec =
+    tie.close (tie.spec fold_held-requires returns slice_aggregate-walk walk-requires returns-2)

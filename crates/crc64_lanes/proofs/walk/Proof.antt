@@ -30,17 +30,17 @@ room false i at n m o e there fits some same = omega arith
 within : (i n m o : ℕ) → i + 24 ≤ n → n ≤ m → o ≡ m → i ≤ o
 within i n m o there fits same = omega arith
 
-abbrev invariant-loop : tie.invariant-loop
+abbrev invariant-loop : tie.invariant-loop-i
 invariant-loop register bytes copies out₀ lanes₀ i₀ out lanes i =
     (i + 24 ≤ length bytes) × (length lanes ≡ 4) × (waits lanes (drop i bytes) ≡ fold (swapped 8 register) bytes)
     × (length out ≡ length out₀) × (copies ≡ true → Filling bytes (drop i bytes) out₀ out i)
 
-abbrev decreases-loop : tie.decreases-loop
+abbrev decreases-loop : tie.decreases-loop-i
 decreases-loop register bytes copies out₀ lanes₀ i₀ out lanes i = length bytes - i
 
-loop-holds : tie.Need-loop-init invariant-loop decreases-loop
+loop-holds : tie.Need-loop-i-init invariant-loop decreases-loop
 loop-holds c =
-    let first = c.before.before in
+    let first = c in
     let a = first.args in
     let s : List ℕ = a.bytes.now in (
       search rules,
@@ -50,7 +50,7 @@ loop-holds c =
       λ e. begins s a.out.now (first.requires.2 e),
     )
 
-sub-loop : tie.Need-overflow-sub-loop invariant-loop decreases-loop
+sub-loop : tie.Need-overflow_sub-bytes invariant-loop decreases-loop
 sub-loop c = search rules
 
 place-requires : tie.Need-place-requires invariant-loop decreases-loop
@@ -58,67 +58,67 @@ place-requires c κs = search rules
 
 block-requires : tie.Need-block-requires invariant-loop decreases-loop
 block-requires c κs =
-    let first = c.before.before.before.before.before.before.before in
+    let first = c in
     let a = first.args in
-    let at = c.before.before.before.before.loop in (
+    let at = c.loop-i in (
       at.invariant.1,
       search rules,
-      room a.copies at.i _ (length a.bytes.now) (length a.out.now) _ c.before.place.ensures (search rules) first.requires.2 first.requires.1 at.invariant.3,
+      room a.copies at.i _ (length a.bytes.now) (length a.out.now) _ c.place.ensures (search rules) first.requires.2 first.requires.1 at.invariant.3,
     )
 
-add-i : tie.Need-overflow-add-i invariant-loop decreases-loop
+add-i : tie.Need-overflow_add-i invariant-loop decreases-loop
 add-i c = search rules
 
-loop-less : tie.Need-loop-smaller invariant-loop decreases-loop
+loop-less : tie.Need-loop-i-smaller invariant-loop decreases-loop
 loop-less c = search rules
 
-loop-again : tie.Need-loop-preserved invariant-loop decreases-loop
+loop-again : tie.Need-loop-i-preserved invariant-loop decreases-loop
 loop-again c =
-    let a = c.before.before.before.before.before.before.before.before.before.before.args in
-    let at = c.before.before.before.before.before.before.before.loop in
-    let done = c.before.before.block.ensures in (
+    let a = c.args in
+    let at = c.loop-i in
+    let done = c.block.ensures in (
       search rules,
       done.0,
       done.1 ∙ at.invariant.2,
       done.2 ∙ at.invariant.3,
-      λ e. done.3 (copying a.copies at.i _ c.before.before.before.before.place.ensures e) a.out.now (at.invariant.4 e),
+      λ e. done.3 (copying a.copies at.i _ c.place.ensures e) a.out.now (at.invariant.4 e),
     )
 
-put-rest-requires : tie.Need-put-rest-requires invariant-loop decreases-loop
-put-rest-requires c κs =
-    let first = c.before.before.before.before.before in
+put_rest-requires : tie.Need-put_rest-requires invariant-loop decreases-loop
+put_rest-requires c κs =
+    let first = c in
     let a = first.args in
-    let at = c.before.before.loop in
+    let at = c.loop-i in
     (search rules, λ e. within at.i (length a.bytes.now) (length a.out.now) _ at.invariant.0 (first.requires.2 e) at.invariant.3)
 
-array-read-joined : tie.Need-array-read-joined invariant-loop decreases-loop
-array-read-joined c = search rules
+array_read-joined : tie.Need-bounds-lanes-0 invariant-loop decreases-loop
+array_read-joined c = search rules
 
-array-read-joined-2 : tie.Need-array-read-joined-2 invariant-loop decreases-loop
-array-read-joined-2 c = search rules
+array_read-joined-2 : tie.Need-bounds-lanes-1 invariant-loop decreases-loop
+array_read-joined-2 c = search rules
 
-array-read-joined-3 : tie.Need-array-read-joined-3 invariant-loop decreases-loop
-array-read-joined-3 c = search rules
+array_read-joined-3 : tie.Need-bounds-lanes-2 invariant-loop decreases-loop
+array_read-joined-3 c = search rules
 
-array-read-joined-4 : tie.Need-array-read-joined-4 invariant-loop decreases-loop
-array-read-joined-4 c = search rules
+array_read-joined-4 : tie.Need-bounds-lanes-3 invariant-loop decreases-loop
+array_read-joined-4 c = search rules
 
 joined-requires : tie.Need-joined-requires invariant-loop decreases-loop
-joined-requires c κs = c.before.before.before.before.before.loop.invariant.0
+joined-requires c κs = c.loop-i.invariant.0
 
-same_length : tie.Need-same-length invariant-loop decreases-loop
-same_length c = c.before.before.before.put_rest.ensures.0 ∙ c.before.before.before.before.before.before.loop.invariant.3
+same_length : tie.Need-shape_of-out invariant-loop decreases-loop
+same_length c = c.put_rest.ensures.0 ∙ c.loop-i.invariant.3
 
 returns : tie.Need-returns invariant-loop decreases-loop
 returns c =
-    let a = c.before.before.before.before.before.before.before.before.before.args in
-    let at = c.before.before.before.before.before.before.loop in (
+    let a = c.args in
+    let at = c.loop-i in (
       finished at.lanes _ at.invariant.1 c.joined.ensures at.invariant.2,
-      λ e. rest_put a.bytes.now at.i a.out.now at.out (at.invariant.4 e) (c.before.before.before.put_rest.ensures.1 e),
+      λ e. rest_put a.bytes.now at.i a.out.now at.out (at.invariant.4 e) (c.put_rest.ensures.1 e),
     )
 
-pub walk-spec : {M : Type 1} → statement M
-walk-spec =
+pub walk_spec : {M : Type 1} → statement M
+walk_spec =
     tie.close
     (tie.spec
     invariant-loop
@@ -130,11 +130,11 @@ walk-spec =
     add-i
     loop-less
     loop-again
-    put-rest-requires
-    array-read-joined
-    array-read-joined-2
-    array-read-joined-3
-    array-read-joined-4
+    put_rest-requires
+    array_read-joined
+    array_read-joined-2
+    array_read-joined-3
+    array_read-joined-4
     joined-requires
     same_length
     returns)

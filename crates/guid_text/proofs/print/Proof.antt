@@ -16,104 +16,104 @@ use borrow.Author.Rules.{rules}
 use Rattle.guid_text.proofs.print.Statement.{statement}
 use Rattle.guid_text.proofs.print.Tie as tie
 
-text-size-requires : tie.Need-text-size-requires
-text-size-requires c κs = search rules
+text_size-requires : tie.Need-text_size-needed-requires
+text_size-requires c κs = search rules
 
-returns : tie.Need-returns
+returns : tie.Need-returns-then-out-needed
 returns c =
-    let start = c.before.before.before in
+    let start = c in
     let g = start.args.id in
     let xs : List ℕ = start.args.out.now in
-    let size : c.before.text_size.result ≡ length (text_of g) = c.before.text_size.ensures in
+    let size : c.text_size-needed.result ≡ length (text_of g) = c.text_size-needed.ensures in
     let short : length xs < length (text_of g) = omega arith in
     let tested = lt-ltb (length xs) (length (text_of g)) short in
     (rw (tested, size), rw tested)
 
-put-dashed-requires : tie.Need-put-dashed-requires
-put-dashed-requires c κs = omega (arith, length_text c.before.before.before.before.args.id, c.before.before.text_size.ensures, c.before.if1.false)
+put_dashed-requires : tie.Need-put_dashed-second-requires
+put_dashed-requires c κs = omega (arith, length_text c.args.id, c.text_size-needed.ensures, c.if-out-needed.false)
 
-sub-put-dashed : tie.Need-overflow-sub-put-dashed
-sub-put-dashed c = omega (arith, length_text c.before.before.before.before.before.before.before.args.id, c.before.before.before.before.before.text_size.ensures, c.before.before.before.before.if1.false, c.before.before.put-dashed.ensures.0, c.before.before.put-dashed.auto.0)
+sub-put_dashed : tie.Need-slice_bounds-put_dashed-count
+sub-put_dashed c = omega (arith, length_text c.args.id, c.text_size-needed.ensures, c.if-out-needed.false, c.put_dashed-second.ensures.0, c.put_dashed-second.auto.0)
 
-part-put-dashed-start : tie.Need-slice-bounds-put-dashed-start
-part-put-dashed-start c = omega (arith, length_text c.before.before.before.before.before.before.before.args.id, c.before.before.before.before.before.text_size.ensures, c.before.before.before.before.if1.false, c.before.before.put-dashed.ensures.0, c.before.before.put-dashed.auto.0)
+part-put_dashed-start : tie.Need-slice_bounds-put_dashed-start
+part-put_dashed-start c = omega (arith, length_text c.args.id, c.text_size-needed.ensures, c.if-out-needed.false, c.put_dashed-second.ensures.0, c.put_dashed-second.auto.0)
 
-part-put-dashed-end : tie.Need-slice-bounds-put-dashed-end
-part-put-dashed-end c = search rules
+part-put_dashed-end : tie.Need-slice_bounds-put_dashed-end
+part-put_dashed-end c = search rules
 
-put-dashed-requires-2 : tie.Need-put-dashed-requires-2
-put-dashed-requires-2 c κs =
-    let put-dashed = c.before.before.before.put-dashed in
-    omega (arith, length_text c.before.before.before.before.before.before.before.before.args.id, c.before.before.before.before.before.before.text_size.ensures, c.before.before.before.before.before.if1.false, put-dashed.ensures.0, put-dashed.auto.0)
+put_dashed-requires-2 : tie.Need-put_dashed-requires
+put_dashed-requires-2 c κs =
+    let put-dashed = c.put_dashed-second in
+    omega (arith, length_text c.args.id, c.text_size-needed.ensures, c.if-out-needed.false, put-dashed.ensures.0, put-dashed.auto.0)
 
-add-third : tie.Need-overflow-add-third
+add-third : tie.Need-overflow_add-third
 add-third c =
-    let put-dashed = c.before.before.before.before.before.before.put-dashed in
-    omega (arith, length_text c.before.before.before.before.before.before.before.before.before.before.before.args.id, c.before.before.before.before.before.before.before.before.before.text_size.ensures, c.before.before.before.before.before.before.before.before.if1.false, put-dashed.ensures.0, put-dashed.auto.0, c.before.before.put-dashed2.ensures.0, c.before.before.put-dashed2.auto.0)
+    let put-dashed = c.put_dashed-second in
+    omega (arith, length_text c.args.id, c.text_size-needed.ensures, c.if-out-needed.false, put-dashed.ensures.0, put-dashed.auto.0, c.put_dashed.ensures.0, c.put_dashed.auto.0)
 
-sub-put-dashed-2 : tie.Need-overflow-sub-put-dashed-2
-sub-put-dashed-2 c =
-    let put-dashed = c.before.before.before.before.before.before.put-dashed in
-    omega (arith, length_text c.before.before.before.before.before.before.before.before.before.before.before.args.id, c.before.before.before.before.before.before.before.before.before.text_size.ensures, c.before.before.before.before.before.before.before.before.if1.false, put-dashed.ensures.0, put-dashed.auto.0, c.before.before.put-dashed2.ensures.0, c.before.before.put-dashed2.auto.0)
+sub-put_dashed-2 : tie.Need-slice_bounds-put_dashed-count-2
+sub-put_dashed-2 c =
+    let put-dashed = c.put_dashed-second in
+    omega (arith, length_text c.args.id, c.text_size-needed.ensures, c.if-out-needed.false, put-dashed.ensures.0, put-dashed.auto.0, c.put_dashed.ensures.0, c.put_dashed.auto.0)
 
-part-put-dashed-start-2 : tie.Need-slice-bounds-put-dashed-start-2
-part-put-dashed-start-2 c =
-    let put-dashed = c.before.before.before.before.before.before.put-dashed in
-    omega (arith, length_text c.before.before.before.before.before.before.before.before.before.before.before.args.id, c.before.before.before.before.before.before.before.before.before.text_size.ensures, c.before.before.before.before.before.before.before.before.if1.false, put-dashed.ensures.0, put-dashed.auto.0, c.before.before.put-dashed2.ensures.0, c.before.before.put-dashed2.auto.0)
+part-put_dashed-start-2 : tie.Need-slice_bounds-put_dashed-start-2
+part-put_dashed-start-2 c =
+    let put-dashed = c.put_dashed-second in
+    omega (arith, length_text c.args.id, c.text_size-needed.ensures, c.if-out-needed.false, put-dashed.ensures.0, put-dashed.auto.0, c.put_dashed.ensures.0, c.put_dashed.auto.0)
 
-part-put-dashed-end-2 : tie.Need-slice-bounds-put-dashed-end-2
-part-put-dashed-end-2 c = search rules
+part-put_dashed-end-2 : tie.Need-slice_bounds-put_dashed-end-2
+part-put_dashed-end-2 c = search rules
 
-put-dashed-requires-3 : tie.Need-put-dashed-requires-3
-put-dashed-requires-3 c κs =
-    let put-dashed = c.before.before.before.before.before.before.before.put-dashed in
-    let put-dashed2 = c.before.before.before.put-dashed2 in
-    omega (arith, length_text c.before.before.before.before.before.before.before.before.before.before.before.before.args.id, c.before.before.before.before.before.before.before.before.before.before.text_size.ensures, c.before.before.before.before.before.before.before.before.before.if1.false, put-dashed.ensures.0, put-dashed.auto.0, put-dashed2.ensures.0, put-dashed2.auto.0)
+put_dashed-requires-3 : tie.Need-put_dashed-requires-2
+put_dashed-requires-3 c κs =
+    let put-dashed = c.put_dashed-second in
+    let put-dashed2 = c.put_dashed in
+    omega (arith, length_text c.args.id, c.text_size-needed.ensures, c.if-out-needed.false, put-dashed.ensures.0, put-dashed.auto.0, put-dashed2.ensures.0, put-dashed2.auto.0)
 
-add-last : tie.Need-overflow-add-last
+add-last : tie.Need-overflow_add-last
 add-last c =
-    let put-dashed = c.before.before.before.before.before.before.before.before.before.before.put-dashed in
-    let put-dashed2 = c.before.before.before.before.before.before.put-dashed2 in
-    omega (arith, length_text c.before.before.before.before.before.before.before.before.before.before.before.before.before.before.before.args.id, c.before.before.before.before.before.before.before.before.before.before.before.before.before.text_size.ensures, c.before.before.before.before.before.before.before.before.before.before.before.before.if1.false, put-dashed.ensures.0, put-dashed.auto.0, put-dashed2.ensures.0, put-dashed2.auto.0, c.before.before.put-dashed3.ensures.0, c.before.before.put-dashed3.auto.0)
+    let put-dashed = c.put_dashed-second in
+    let put-dashed2 = c.put_dashed in
+    omega (arith, length_text c.args.id, c.text_size-needed.ensures, c.if-out-needed.false, put-dashed.ensures.0, put-dashed.auto.0, put-dashed2.ensures.0, put-dashed2.auto.0, c.put_dashed-2.ensures.0, c.put_dashed-2.auto.0)
 
-sub-put : tie.Need-overflow-sub-put
+sub-put : tie.Need-slice_bounds-put-count
 sub-put c =
-    let put-dashed = c.before.before.before.before.before.before.before.before.before.before.put-dashed in
-    let put-dashed2 = c.before.before.before.before.before.before.put-dashed2 in
-    omega (arith, length_text c.before.before.before.before.before.before.before.before.before.before.before.before.before.before.before.args.id, c.before.before.before.before.before.before.before.before.before.before.before.before.before.text_size.ensures, c.before.before.before.before.before.before.before.before.before.before.before.before.if1.false, put-dashed.ensures.0, put-dashed.auto.0, put-dashed2.ensures.0, put-dashed2.auto.0, c.before.before.put-dashed3.ensures.0, c.before.before.put-dashed3.auto.0)
+    let put-dashed = c.put_dashed-second in
+    let put-dashed2 = c.put_dashed in
+    omega (arith, length_text c.args.id, c.text_size-needed.ensures, c.if-out-needed.false, put-dashed.ensures.0, put-dashed.auto.0, put-dashed2.ensures.0, put-dashed2.auto.0, c.put_dashed-2.ensures.0, c.put_dashed-2.auto.0)
 
-part-put-start : tie.Need-slice-bounds-put-start
+part-put-start : tie.Need-slice_bounds-put-start
 part-put-start c =
-    let put-dashed = c.before.before.before.before.before.before.before.before.before.before.put-dashed in
-    let put-dashed2 = c.before.before.before.before.before.before.put-dashed2 in
-    omega (arith, length_text c.before.before.before.before.before.before.before.before.before.before.before.before.before.before.before.args.id, c.before.before.before.before.before.before.before.before.before.before.before.before.before.text_size.ensures, c.before.before.before.before.before.before.before.before.before.before.before.before.if1.false, put-dashed.ensures.0, put-dashed.auto.0, put-dashed2.ensures.0, put-dashed2.auto.0, c.before.before.put-dashed3.ensures.0, c.before.before.put-dashed3.auto.0)
+    let put-dashed = c.put_dashed-second in
+    let put-dashed2 = c.put_dashed in
+    omega (arith, length_text c.args.id, c.text_size-needed.ensures, c.if-out-needed.false, put-dashed.ensures.0, put-dashed.auto.0, put-dashed2.ensures.0, put-dashed2.auto.0, c.put_dashed-2.ensures.0, c.put_dashed-2.auto.0)
 
-part-put-end : tie.Need-slice-bounds-put-end
+part-put-end : tie.Need-slice_bounds-put-end
 part-put-end c = search rules
 
 put-requires : tie.Need-put-requires
 put-requires c κs =
-    let put-dashed = c.before.before.before.before.before.before.before.before.before.before.before.put-dashed in
-    let put-dashed2 = c.before.before.before.before.before.before.before.put-dashed2 in
-    let put-dashed3 = c.before.before.before.put-dashed3 in
-    omega (arith, length_text c.before.before.before.before.before.before.before.before.before.before.before.before.before.before.before.before.args.id, c.before.before.before.before.before.before.before.before.before.before.before.before.before.before.text_size.ensures, c.before.before.before.before.before.before.before.before.before.before.before.before.before.if1.false, put-dashed.ensures.0, put-dashed.auto.0, put-dashed2.ensures.0, put-dashed2.auto.0, put-dashed3.ensures.0, put-dashed3.auto.0)
+    let put-dashed = c.put_dashed-second in
+    let put-dashed2 = c.put_dashed in
+    let put-dashed3 = c.put_dashed-2 in
+    omega (arith, length_text c.args.id, c.text_size-needed.ensures, c.if-out-needed.false, put-dashed.ensures.0, put-dashed.auto.0, put-dashed2.ensures.0, put-dashed2.auto.0, put-dashed3.ensures.0, put-dashed3.auto.0)
 
-same_length : tie.Need-same-length
+same_length : tie.Need-shape_of-out
 same_length c = search rules
 
-returns-2 : tie.Need-returns-2
+returns-2 : tie.Need-returns
 returns-2 c =
-    let start = c.before.before.before.before.before.before.before.before.before.before.before.before.before.before.before.before.before.before.before in
-    let text_size = c.before.before.before.before.before.before.before.before.before.before.before.before.before.before.before.before.before.text_size in
+    let start = c in
+    let text_size = c.text_size-needed in
     let g = start.args.id in
     let xs : List ℕ = start.args.out.now in
     let size : text_size.result ≡ length (text_of g) = text_size.ensures in
-    let room : length (text_of g) ≤ length xs = omega (arith, c.before.before.before.before.before.before.before.before.before.before.before.before.before.before.before.before.if1.false) in
+    let room : length (text_of g) ≤ length xs = omega (arith, c.if-out-needed.false) in
     let whole = length_text g in
-    let p3 = c.before.before.before.before.before.before.before.before.before.before.before.before.before.before.put-dashed in
-    let p2 = c.before.before.before.before.before.before.before.before.before.before.put-dashed2 in
-    let p1 = c.before.before.before.before.before.before.put-dashed3 in
-    let p0 = c.before.before.put in
+    let p3 = c.put_dashed-second in
+    let p2 = c.put_dashed in
+    let p1 = c.put_dashed-2 in
+    let p0 = c.put in
     let f3 : List ℕ = dashed g.w3 in
     let f2 : List ℕ = dashed g.w2 in
     let f1 : List ℕ = dashed g.w1 in
@@ -123,32 +123,32 @@ returns-2 c =
     let l1 : length f1 ≡ p1.result = length_dashed g.w1 ∙ sym p1.ensures.0 in
     let m2 : length (f3 ++ f2) ≡ p3.result + p2.result = omega (arith, length-append f3 f2) in
     let m1 : length (f3 ++ f2 ++ f1) ≡ p3.result + p2.result + p1.result = omega (arith, length-append (f3 ++ f2) f1) in
-    let s3 : List ℕ = p3.new.0 in
-    let s2 : List ℕ = back s3 p3.result p2.new.0 in
-    let s1 : List ℕ = back s2 (p3.result + p2.result) p1.new.0 in
-    let s0 : List ℕ = back s1 (p3.result + p2.result + p1.result) p0.new.0 in
-    let e2 : s2 ≡ over (f3 ++ f2) xs = lent_over f3 f2 xs s3 p2.new.0 p3.result p3.ensures.1 l3 (omega (arith, p3.ensures.0, p2.ensures.0)) p2.ensures.1 in
-    let e1 : s1 ≡ over (f3 ++ f2 ++ f1) xs = lent_over (f3 ++ f2) f1 xs s2 p1.new.0 (p3.result + p2.result) e2 m2 (omega (arith, p3.ensures.0, p2.ensures.0, p1.ensures.0)) p1.ensures.1 in
-    let e0 : s0 ≡ over (f3 ++ f2 ++ f1 ++ f0) xs = lent_over (f3 ++ f2 ++ f1) f0 xs s1 p0.new.0 (p3.result + p2.result + p1.result) e1 m1 (omega (arith, p3.ensures.0, p2.ensures.0, p1.ensures.0)) p0.ensures.1 in
+    let s3 : List ℕ = p3.new.out in
+    let s2 : List ℕ = back s3 p3.result p2.new.out in
+    let s1 : List ℕ = back s2 (p3.result + p2.result) p1.new.out in
+    let s0 : List ℕ = back s1 (p3.result + p2.result + p1.result) p0.new.out in
+    let e2 : s2 ≡ over (f3 ++ f2) xs = lent_over f3 f2 xs s3 p2.new.out p3.result p3.ensures.1 l3 (omega (arith, p3.ensures.0, p2.ensures.0)) p2.ensures.1 in
+    let e1 : s1 ≡ over (f3 ++ f2 ++ f1) xs = lent_over (f3 ++ f2) f1 xs s2 p1.new.out (p3.result + p2.result) e2 m2 (omega (arith, p3.ensures.0, p2.ensures.0, p1.ensures.0)) p1.ensures.1 in
+    let e0 : s0 ≡ over (f3 ++ f2 ++ f1 ++ f0) xs = lent_over (f3 ++ f2 ++ f1) f0 xs s1 p0.new.out (p3.result + p2.result + p1.result) e1 m1 (omega (arith, p3.ensures.0, p2.ensures.0, p1.ensures.0)) p0.ensures.1 in
     let tested = le-ltb (length xs) (length (text_of g)) room in
     (rw (tested, size), rw tested (e0 ∙ ap (λ (l : List ℕ). over l xs) (text_in_fields g)))
 
-pub print-spec : {M : Type 1} → statement M
-print-spec =
+pub print_spec : {M : Type 1} → statement M
+print_spec =
     tie.close
     (tie.spec
-    text-size-requires
+    text_size-requires
     returns
-    put-dashed-requires
-    sub-put-dashed
-    part-put-dashed-start
-    part-put-dashed-end
-    put-dashed-requires-2
+    put_dashed-requires
+    sub-put_dashed
+    part-put_dashed-start
+    part-put_dashed-end
+    put_dashed-requires-2
     add-third
-    sub-put-dashed-2
-    part-put-dashed-start-2
-    part-put-dashed-end-2
-    put-dashed-requires-3
+    sub-put_dashed-2
+    part-put_dashed-start-2
+    part-put_dashed-end-2
+    put_dashed-requires-3
     add-last
     sub-put
     part-put-start

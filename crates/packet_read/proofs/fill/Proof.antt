@@ -99,7 +99,7 @@ loop-again c = let l = c.before.before.before.before.before.before.loop in
     let read = c.before.before.before.before.size_word.ensures in
     let stored = c.before.before.before.sum-word.ensures in
     let start = c.before.before.before.before.before.before.before.before.before in
-    (omega arith, start_next _ _ l.index _ _ _ l.invariant.1 read c.taken.ensures, entries_step _ _ l.index _ _ _ _ _ _ start.args.parts.now l.invariant.1 read stored c.before.before.offset_word.ensures c.before.length_word_lem.ensures l.invariant.2 (omega (arith, start.requires)))
+    (omega arith, start_next _ _ l.index _ _ _ l.invariant.1 read c.taken.ensures, entries_step _ _ l.index _ _ _ _ _ _ start.args.parts.now l.invariant.1 read stored c.before.before.offset_word.ensures c.before.length_word.ensures l.invariant.2 (omega (arith, start.requires)))
 
 same_length : tie.Need-same-length invariant-loop decreases-loop
 same_length c = let l = c.before.loop in

@@ -23,7 +23,7 @@ values-size-requires c κs =
 returns-3 : tie.Need-returns-3
 returns-3 c =
     let a = c.before.before.before.before.before.args in
-    c.values_size_lem.ensures ∙ sym (ap length (row_values a.area.now a.values.now a.count a.k c.before.before.if1.false c.before.if2.false))
+    c.values_size.ensures ∙ sym (ap length (row_values a.area.now a.values.now a.count a.k c.before.before.if1.false c.before.if2.false))
 
 pub row-size-spec : {M : Type 1} → statement M
 row-size-spec = tie.close (tie.spec returns returns-2 values-size-requires returns-3)

@@ -29,7 +29,7 @@ row-size-requires c κs =
     (start'.requires.0, c.before.before.loop.invariant.0, row_fits _ _ _ _ _ _ c.before.before.loop.invariant c.before.loop-test.true, omega (arith, row_short _ _ _ _ _ _ c.before.before.loop.invariant c.before.loop-test.true, start'.requires.2))
 
 add-size : tie.Need-overflow-add-size invariant-loop decreases-loop
-add-size c = omega (arith, c.row_size_lem.ensures, row_short _ _ _ _ _ _ c.before.before.before.loop.invariant c.before.before.loop-test.true, c.before.before.before.before.before.before.before.requires.2)
+add-size c = omega (arith, c.row_size.ensures, row_short _ _ _ _ _ _ c.before.before.before.loop.invariant c.before.before.loop-test.true, c.before.before.before.before.before.before.before.requires.2)
 
 values-in-requires : tie.Need-values-in-requires invariant-loop decreases-loop
 values-in-requires c κs = search rules
@@ -47,7 +47,7 @@ loop-less : tie.Need-loop-smaller invariant-loop decreases-loop
 loop-less c = omega arith
 
 loop-again : tie.Need-loop-preserved invariant-loop decreases-loop
-loop-again c = rows_go _ _ _ _ _ _ c.before.before.before.before.loop.invariant c.before.before.before.loop-test.true _ _ c.before.row_size_lem.ensures c.values-in.ensures
+loop-again c = rows_go _ _ _ _ _ _ c.before.before.before.before.loop.invariant c.before.before.before.loop-test.true _ _ c.before.row_size.ensures c.values-in.ensures
 
 returns : tie.Need-returns invariant-loop decreases-loop
 returns c =

@@ -8,16 +8,16 @@ use Rattle.yson_token.proofs.byte_at.Reads as reads
 use Rattle.yson_token.proofs.byte_at.Lts as lts
 
 -- src/lib.rt
-shared-slice-read-result : tie.Need-shared-slice-read-result
-shared-slice-read-result c = search rules
+shared_slice_read-result : tie.Need-bounds-s-at
+shared_slice_read-result c = search rules
 
 -- src/lib.rt
-returns : tie.Need-returns
+returns : tie.Need-returns-then-at-s
 returns c = search rules
 
 -- src/lib.rt
-returns-2 : tie.Need-returns-2
-returns-2 c = sym (get_or-eq_default c.before.args.s.now 0 c.if1.false)
+returns-2 : tie.Need-returns-else-at-s
+returns-2 c = sym (get_or-eq_default c.args.s.now 0 c.if-at-s.false)
 
-pub byte-at-spec : {M : Type 1} → statement M
-byte-at-spec = tie.close (tie.spec shared-slice-read-result returns returns-2)
+pub byte_at_spec : {M : Type 1} → statement M
+byte_at_spec = tie.close (tie.spec shared_slice_read-result returns returns-2)

@@ -11,22 +11,22 @@ use Rattle.yson_token.proofs.key.Lts as lts
 use Rattle.yson_token.proofs.byte_at.Reads as byte-at-reads
 use Rattle.yson_token.proofs.text.Reads as text-reads
 
-byte-at-requires : tie.Need-byte-at-requires
-byte-at-requires c κs = search rules
+byte_at-requires : tie.Need-byte_at-requires
+byte_at-requires c κs = search rules
 
-add-text : tie.Need-overflow-add-text
+add-text : tie.Need-overflow_add-at
 add-text c =
-    let start = c.before.before.before in
-    omega (arith, inside start.args.s.now start.args.at 0 (sym c.before.byte_at.ensures ∙ c.if1.true))
+    let start = c in
+    omega (arith, inside start.args.s.now start.args.at 0 (sym c.byte_at.ensures ∙ c.if-byte_at-eq1.true))
 
 text-requires : tie.Need-text-requires
 text-requires c κs = search rules
 
-returns : tie.Need-returns
-returns c = c.text.ensures ∙ sym (key_string _ _ (sym c.before.before.byte_at.ensures ∙ c.before.if1.true))
+returns : tie.Need-returns-then-byte_at-eq1
+returns c = c.text.ensures ∙ sym (key_string _ _ (sym c.byte_at.ensures ∙ c.if-byte_at-eq1.true))
 
-returns-2 : tie.Need-returns-2
-returns-2 c = key_other _ _ (λ e. c.if1.false (c.before.byte_at.ensures ∙ e))
+returns-2 : tie.Need-returns
+returns-2 c = key_other _ _ (λ e. c.if-byte_at-eq1.false (c.byte_at.ensures ∙ e))
 
 pub key_spec : {M : Type 1} → statement M
-key_spec = tie.close (tie.spec byte-at-requires add-text text-requires returns returns-2)
+key_spec = tie.close (tie.spec byte_at-requires add-text text-requires returns returns-2)

@@ -7,24 +7,24 @@ use Rattle.yson_token.proofs.number.Reads as reads
 use Rattle.yson_token.proofs.number.Lts as lts
 
 -- src/lib.rt
-read-varint-requires : tie.Need-read-varint-requires
-read-varint-requires c κs = search rules
+read_varint-requires : tie.Need-read_varint-requires
+read_varint-requires c κs = search rules
 
 -- src/lib.rt
-enum-known-end : tie.Need-enum-known-end
-enum-known-end c = search rules
+enum_known-end : tie.Need-enum_known-end
+enum_known-end c = search rules
 
 -- src/lib.rt
-enum_told : tie.Need-enum-told
+enum_told : tie.Need-enum_told-1
 enum_told c = search rules
 
 -- src/lib.rt
-returns : tie.Need-returns
-returns c = let stage = rw c.before.end.given.1 at c.before.before.before.read-varint.ensures in number_whole _ _ _ _ stage
+returns : tie.Need-returns-in-Whole
+returns c = let stage = rw c.in-Whole.is at c.read_varint.ensures in number_whole _ _ _ _ stage
 
 -- src/lib.rt
-returns-2 : tie.Need-returns-2
-returns-2 c = let stage = rw c.enum_told.given.1 at c.before.before.read-varint.ensures in number_broken _ _ stage
+returns-2 : tie.Need-returns-in-Broken
+returns-2 c = let stage = rw c.in-Broken.is at c.read_varint.ensures in number_broken _ _ stage
 
-pub number-spec : {M : Type 1} → statement M
-number-spec = tie.close (tie.spec read-varint-requires enum-known-end enum_told returns returns-2)
+pub number_spec : {M : Type 1} → statement M
+number_spec = tie.close (tie.spec read_varint-requires enum_known-end enum_told returns returns-2)

@@ -28,7 +28,7 @@ loop-less : tie.Need-loop-smaller invariant-loop decreases-loop
 loop-less c = omega arith
 
 loop-again : tie.Need-loop-preserved invariant-loop decreases-loop
-loop-again c = adds_on c.before.before.before.loop.invariant (omega arith) _ _ c.before.row_size_lem.ensures c.add-capped.ensures (omega arith)
+loop-again c = adds_on c.before.before.before.loop.invariant (omega arith) _ _ c.before.row_size.ensures c.add-capped.ensures (omega arith)
 
 returns : tie.Need-returns invariant-loop decreases-loop
 returns c = added c.before.loop.invariant c.loop-test.false c.before.before.before.requires

@@ -23,7 +23,7 @@ varint-size-requires c κs = search rules
 add-code : tie.Need-overflow-add-code
 add-code c =
     let start = c.before.before.before in
-    omega (arith, c.varint_size_lem.ensures, varint_few (code_in start.args.errors.now start.args.i))
+    omega (arith, c.varint_size.ensures, varint_few (code_in start.args.errors.now start.args.i))
 
 mul-delimited-size : tie.Need-overflow-mul-delimited-size
 mul-delimited-size c = search rules
@@ -50,7 +50,7 @@ add-capped-requires-2 : tie.Need-add-capped-requires-2
 add-capped-requires-2 c κs = search rules
 
 returns : tie.Need-returns
-returns c = sum_of _ _ (sum_behind _ _ (ap (λ (n : ℕ). 1 + n) c.before.before.before.before.before.varint_size_lem.ensures) c.before.before.before.delimited-size.ensures c.before.before.add-capped.ensures) c.before.dictionary-size.ensures c.add-capped2.ensures
+returns c = sum_of _ _ (sum_behind _ _ (ap (λ (n : ℕ). 1 + n) c.before.before.before.before.before.varint_size.ensures) c.before.before.before.delimited-size.ensures c.before.before.add-capped.ensures) c.before.dictionary-size.ensures c.add-capped2.ensures
 
 pub own-size-spec : {M : Type 1} → statement M
 own-size-spec =

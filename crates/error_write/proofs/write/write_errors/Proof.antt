@@ -66,27 +66,27 @@ varint-size-requires c κs = search rules
 add-size : tie.Need-overflow-add-size invariant-loop decreases-loop
 add-size c =
     let start = c.before.before.before.before.before.before.before.before.before.before.before.before.before in
-    omega (arith, head_fits start.requires.0 start.args.total start.args.out.now start.requires.1 start.requires.2 (omega (arith, start.well-formed)) c.before.before.before.before.before.before.before.loop.invariant c.before.before.before.before.before.before.loop-test.true c.before.before.before.before.entries-size.ensures c.before.before.before.own-size.ensures c.before.add-capped.ensures c.varint_size_lem.ensures)
+    omega (arith, head_fits start.requires.0 start.args.total start.args.out.now start.requires.1 start.requires.2 (omega (arith, start.well-formed)) c.before.before.before.before.before.before.before.loop.invariant c.before.before.before.before.before.before.loop-test.true c.before.before.before.before.entries-size.ensures c.before.before.before.own-size.ensures c.before.add-capped.ensures c.varint_size.ensures)
 
 add-size-2 : tie.Need-overflow-add-size-2 invariant-loop decreases-loop
 add-size-2 c =
     let start = c.before.before.before.before.before.before.before.before.before.before.before.before.before in
-    omega (arith, head_fits start.requires.0 start.args.total start.args.out.now start.requires.1 start.requires.2 (omega (arith, start.well-formed)) c.before.before.before.before.before.before.before.loop.invariant c.before.before.before.before.before.before.loop-test.true c.before.before.before.before.entries-size.ensures c.before.before.before.own-size.ensures c.before.add-capped.ensures c.varint_size_lem.ensures)
+    omega (arith, head_fits start.requires.0 start.args.total start.args.out.now start.requires.1 start.requires.2 (omega (arith, start.well-formed)) c.before.before.before.before.before.before.before.loop.invariant c.before.before.before.before.before.before.loop-test.true c.before.before.before.before.entries-size.ensures c.before.before.before.own-size.ensures c.before.add-capped.ensures c.varint_size.ensures)
 
 sub_at : tie.Need-overflow-sub-at invariant-loop decreases-loop
 sub_at c =
     let start = c.before.before.before.before.before.before.before.before.before.before.before.before.before in
-    head_fits start.requires.0 start.args.total start.args.out.now start.requires.1 start.requires.2 (omega (arith, start.well-formed)) c.before.before.before.before.before.before.before.loop.invariant c.before.before.before.before.before.before.loop-test.true c.before.before.before.before.entries-size.ensures c.before.before.before.own-size.ensures c.before.add-capped.ensures c.varint_size_lem.ensures
+    head_fits start.requires.0 start.args.total start.args.out.now start.requires.1 start.requires.2 (omega (arith, start.well-formed)) c.before.before.before.before.before.before.before.loop.invariant c.before.before.before.before.before.before.loop-test.true c.before.before.before.before.entries-size.ensures c.before.before.before.own-size.ensures c.before.add-capped.ensures c.varint_size.ensures
 
 sub-put-inner : tie.Need-overflow-sub-put-inner invariant-loop decreases-loop
 sub-put-inner c =
     let start = c.before.before.before.before.before.before.before.before.before.before.before.before.before in
-    head_place start.requires.0 start.args.total start.args.out.now start.requires.1 start.requires.2 (omega (arith, start.well-formed)) c.before.before.before.before.before.before.before.loop.invariant c.before.before.before.before.before.before.loop-test.true c.before.before.before.before.entries-size.ensures c.before.before.before.own-size.ensures c.before.add-capped.ensures c.varint_size_lem.ensures
+    head_place start.requires.0 start.args.total start.args.out.now start.requires.1 start.requires.2 (omega (arith, start.well-formed)) c.before.before.before.before.before.before.before.loop.invariant c.before.before.before.before.before.before.loop-test.true c.before.before.before.before.entries-size.ensures c.before.before.before.own-size.ensures c.before.add-capped.ensures c.varint_size.ensures
 
 part-put-inner-start : tie.Need-slice-bounds-put-inner-start invariant-loop decreases-loop
 part-put-inner-start c =
     let start = c.before.before.before.before.before.before.before.before.before.before.before.before.before in
-    head_place start.requires.0 start.args.total start.args.out.now start.requires.1 start.requires.2 (omega (arith, start.well-formed)) c.before.before.before.before.before.before.before.loop.invariant c.before.before.before.before.before.before.loop-test.true c.before.before.before.before.entries-size.ensures c.before.before.before.own-size.ensures c.before.add-capped.ensures c.varint_size_lem.ensures
+    head_place start.requires.0 start.args.total start.args.out.now start.requires.1 start.requires.2 (omega (arith, start.well-formed)) c.before.before.before.before.before.before.before.loop.invariant c.before.before.before.before.before.before.loop-test.true c.before.before.before.before.entries-size.ensures c.before.before.before.own-size.ensures c.before.add-capped.ensures c.varint_size.ensures
 
 part-put-inner-end : tie.Need-slice-bounds-put-inner-end invariant-loop decreases-loop
 part-put-inner-end c = search rules
@@ -98,7 +98,7 @@ put-inner-requires c κs =
     let loop-test = c.before.before.before.before.before.before.before.loop-test in
     let entries-size = c.before.before.before.before.before.entries-size in
     let own-size = c.before.before.before.before.own-size in
-    (start.requires.0, omega (arith, turn.loop.invariant.measuring.high, loop-test.true), c.before.before.before.before.before.before.first-row.ensures.0, entries_right start.requires.0 start.args.total start.args.out.now start.requires.1 start.requires.2 (omega (arith, start.well-formed)) turn.loop.invariant loop-test.true entries-size.ensures own-size.ensures c.before.before.add-capped.ensures c.before.varint_size_lem.ensures, head_room start.requires.0 start.args.total start.args.out.now start.requires.1 start.requires.2 (omega (arith, start.well-formed)) turn.loop.invariant loop-test.true entries-size.ensures own-size.ensures c.before.before.add-capped.ensures c.before.varint_size_lem.ensures)
+    (start.requires.0, omega (arith, turn.loop.invariant.measuring.high, loop-test.true), c.before.before.before.before.before.before.first-row.ensures.0, entries_right start.requires.0 start.args.total start.args.out.now start.requires.1 start.requires.2 (omega (arith, start.well-formed)) turn.loop.invariant loop-test.true entries-size.ensures own-size.ensures c.before.before.add-capped.ensures c.before.varint_size.ensures, head_room start.requires.0 start.args.total start.args.out.now start.requires.1 start.requires.2 (omega (arith, start.well-formed)) turn.loop.invariant loop-test.true entries-size.ensures own-size.ensures c.before.before.add-capped.ensures c.before.varint_size.ensures)
 
 row-before-requires : tie.Need-row-before-requires invariant-loop decreases-loop
 row-before-requires c κs = search rules
@@ -144,7 +144,7 @@ loop-less c = omega arith
 loop-again : tie.Need-loop-preserved invariant-loop decreases-loop
 loop-again c =
     let start = c.before.before.before.before.before.before.before.before.before.before.before.before.before.before.before.before.before.before.before.before in
-    going_on start.requires.0 start.args.total start.args.out.now start.requires.1 start.requires.2 (omega (arith, start.well-formed)) c.before.before.before.before.before.before.before.before.before.before.before.before.before.before.loop.invariant c.before.before.before.before.before.before.before.before.before.before.before.before.before.loop-test.true c.before.before.before.before.before.before.before.before.before.before.before.entries-size.ensures c.before.before.before.before.before.before.before.before.before.before.own-size.ensures c.before.before.before.before.before.before.before.before.add-capped.ensures c.before.before.before.before.before.before.before.varint_size_lem.ensures c.before.before.before.before.before.before.before.before.before.before.before.before.first-row.ensures c.before.before.row_before.ensures c.before.delimited-size.ensures c.add-capped2.ensures c.before.before.before.before.before.put-inner.ensures
+    going_on start.requires.0 start.args.total start.args.out.now start.requires.1 start.requires.2 (omega (arith, start.well-formed)) c.before.before.before.before.before.before.before.before.before.before.before.before.before.before.loop.invariant c.before.before.before.before.before.before.before.before.before.before.before.before.before.loop-test.true c.before.before.before.before.before.before.before.before.before.before.before.entries-size.ensures c.before.before.before.before.before.before.before.before.before.before.own-size.ensures c.before.before.before.before.before.before.before.before.add-capped.ensures c.before.before.before.before.before.before.before.varint_size.ensures c.before.before.before.before.before.before.before.before.before.before.before.before.first-row.ensures c.before.before.row_before.ensures c.before.delimited-size.ensures c.add-capped2.ensures c.before.before.before.before.before.put-inner.ensures
 
 first-row-requires-2 : tie.Need-first-row-requires-2 invariant-loop decreases-loop
 first-row-requires-2 c κs = root_pending c.before.before.before.before.before.before.before.requires.0 c.before.loop.invariant.measuring c.loop-test.false

@@ -64,7 +64,7 @@ same_length c = search rules
 returns-2 : tie.Need-returns
 unfolding wire_bytes
 returns-2 c =
-    let start = c.before.before.before.before.before.before.before.before.before.before.before.before.before.before.before.before.before.before in
+    let start = c in
     let g = start.args.self in
     let xs : List ℕ = start.args.out.now in
     let p0 = c.write_u32 in
@@ -80,10 +80,10 @@ returns-2 c =
     let lb : length b ≡ 4 = length_bytes_of 4 g.w1 in
     let ld : length d ≡ 4 = length_bytes_of 4 g.w2 in
     let le : length e ≡ 4 = length_bytes_of 4 g.w3 in
-    let s0 : p0.new.0 ≡ over a xs = p0.ensures ∙ fitted_fits a xs (omega arith) in
-    let s1 : back p0.new.0 4 p1.new.0 ≡ over (a ++ b) xs = lent_fitted a b xs p0.new.0 p1.new.0 4 s0 la (omega arith) p1.ensures in
-    let s2 : back (back p0.new.0 4 p1.new.0) 8 p2.new.0 ≡ over (a ++ b ++ d) xs = lent_fitted (a ++ b) d xs (back p0.new.0 4 p1.new.0) p2.new.0 8 s1 (simp (length-append, la, lb)) (omega arith) p2.ensures in
-    let s3 : back (back (back p0.new.0 4 p1.new.0) 8 p2.new.0) 12 p3.new.0 ≡ over (a ++ b ++ d ++ e) xs = lent_fitted (a ++ b ++ d) e xs (back (back p0.new.0 4 p1.new.0) 8 p2.new.0) p3.new.0 12 s2 (simp (length-append, la, lb, ld)) (omega arith) p3.ensures in
+    let s0 : p0.new.out ≡ over a xs = p0.ensures ∙ fitted_fits a xs (omega arith) in
+    let s1 : back p0.new.out 4 p1.new.out ≡ over (a ++ b) xs = lent_fitted a b xs p0.new.out p1.new.out 4 s0 la (omega arith) p1.ensures in
+    let s2 : back (back p0.new.out 4 p1.new.out) 8 p2.new.out ≡ over (a ++ b ++ d) xs = lent_fitted (a ++ b) d xs (back p0.new.out 4 p1.new.out) p2.new.out 8 s1 (simp (length-append, la, lb)) (omega arith) p2.ensures in
+    let s3 : back (back (back p0.new.out 4 p1.new.out) 8 p2.new.out) 12 p3.new.out ≡ over (a ++ b ++ d ++ e) xs = lent_fitted (a ++ b ++ d) e xs (back (back p0.new.out 4 p1.new.out) 8 p2.new.out) p3.new.out 12 s2 (simp (length-append, la, lb, ld)) (omega arith) p3.ensures in
     s3 ∙ sym (fitted_fits (a ++ b ++ d ++ e) xs (simp (length-append, la, lb, ld, le) room))
 
 pub write_spec : {M : Type 1} → statement M

@@ -23,7 +23,7 @@ returns-2 c =
     let start = c.before.before.before.before.before.before in
     let a = start.args in
     escape_high a.text.now a.at c.before.before.before.before.if1.false _
-    c.before.before.capital_value_lem.ensures _ c.before.high_fits.ensures (not-true _ c.if2.true)
+    c.before.before.capital_value.ensures _ c.before.high_fits.ensures (not-true _ c.if2.true)
 
 add-second : tie.Need-overflow-add-second
 add-second c = search rules
@@ -33,7 +33,7 @@ returns-3 c =
     let start = c.before.before.before.before.before.before.before in
     let a = start.args in
     escape_half a.text.now a.at c.before.before.before.before.before.if1.false _
-    c.before.before.before.capital_value_lem.ensures _ c.before.before.high_fits.ensures
+    c.before.before.before.capital_value.ensures _ c.before.before.high_fits.ensures
     (not-false _ c.before.if2.false) c.if3.true
 
 shared-slice-read-capital-value-2 : tie.Need-shared-slice-read-capital-value-2
@@ -47,7 +47,7 @@ returns-4 c =
     let start = c.before.before.before.before.before.before.before.before.before.before in
     let a = start.args in
     escape_low a.text.now a.at c.before.before.before.before.before.before.before.before.if1.false _
-    c.before.before.before.before.before.before.capital_value_lem.ensures _
+    c.before.before.before.before.before.before.capital_value.ensures _
     c.before.before.before.before.before.high_fits.ensures
     (not-false _ c.before.before.before.before.if2.false) c.before.before.before.if3.false _
     c.before.capital-value2.ensures c.if4.true
@@ -56,7 +56,7 @@ mul-is-escaped : tie.Need-overflow-mul-is-escaped
 mul-is-escaped c =
     let start = c.before.before.before.before.before.before.before.before.before.before in
     let a = start.args in
-    let capital_value_lem = c.before.before.before.before.before.before.capital_value_lem in
+    let capital_value_lem = c.before.before.before.before.before.before.capital_value in
     let high_fits = c.before.before.before.before.before.high_fits in
     omega (
       arith,
@@ -70,7 +70,7 @@ add-is-escaped : tie.Need-overflow-add-is-escaped
 add-is-escaped c =
     let start = c.before.before.before.before.before.before.before.before.before.before in
     let a = start.args in
-    let capital_value_lem = c.before.before.before.before.before.before.capital_value_lem in
+    let capital_value_lem = c.before.before.before.before.before.before.capital_value in
     let high_fits = c.before.before.before.before.before.high_fits in
     omega (
       arith,
@@ -84,7 +84,7 @@ cast-is-escaped : tie.Need-overflow-cast-is-escaped
 cast-is-escaped c =
     let start = c.before.before.before.before.before.before.before.before.before.before in
     let a = start.args in
-    let capital_value_lem = c.before.before.before.before.before.before.capital_value_lem in
+    let capital_value_lem = c.before.before.before.before.before.before.capital_value in
     let high_fits = c.before.before.before.before.before.high_fits in
     omega (
       arith,
@@ -103,7 +103,7 @@ returns-5 c =
     let a = start.args in
     escape_needless a.text.now a.at
     c.before.before.before.before.before.before.before.before.before.before.if1.false _
-    c.before.before.before.before.before.before.before.before.capital_value_lem.ensures _
+    c.before.before.before.before.before.before.before.before.capital_value.ensures _
     c.before.before.before.before.before.before.before.high_fits.ensures
     (not-false _ c.before.before.before.before.before.before.if2.false)
     c.before.before.before.before.before.if3.false _ c.before.before.before.capital-value2.ensures
@@ -118,7 +118,7 @@ returns-6 c =
     let a = start.args in
     escape_whole a.text.now a.at
     c.before.before.before.before.before.before.before.before.before.before.if1.false _
-    c.before.before.before.before.before.before.before.before.capital_value_lem.ensures _
+    c.before.before.before.before.before.before.before.before.capital_value.ensures _
     c.before.before.before.before.before.before.before.high_fits.ensures
     (not-false _ c.before.before.before.before.before.before.if2.false)
     c.before.before.before.before.before.if3.false _ c.before.before.before.capital-value2.ensures

@@ -27,12 +27,12 @@ wide-requires c κs = search rules
 
 mul-t13 : tie.Need-overflow_mul-result invariant-loop decreases-loop
 mul-t13 c =
-    let turn = c.before.before.before.before.before in
+    let turn = c in
     omega (arith, room turn.loop-left.invariant c.loop-left-test.true, scaled turn.loop-left.invariant c.wide-byte.result 127 (omega arith))
 
 add-t14 : tie.Need-overflow_add-result invariant-loop decreases-loop
 add-t14 c =
-    let turn = c.before.before.before.before.before in
+    let turn = c in
     omega (arith, room turn.loop-left.invariant c.loop-left-test.true, scaled turn.loop-left.invariant c.wide-byte.result 127 (omega arith))
 
 add-t15 : tie.Need-overflow_add-result-then-byte-lt128 invariant-loop decreases-loop
@@ -40,17 +40,17 @@ add-t15 c = omega arith
 
 returns-2 : tie.Need-returns-then-byte-lt128 invariant-loop decreases-loop
 returns-2 c =
-    let turn = c.before.before.before.before.before in
+    let turn = c in
     last_whole turn.loop-left.invariant _ _ c.requires c.if-end-at.false c.wide-byte.ensures.0 c.if-byte-lt128.true (omega (arith, room turn.loop-left.invariant c.loop-left-test.true, scaled turn.loop-left.invariant c.wide-byte.result 127 (omega arith)))
 
 mul-value : tie.Need-overflow_mul-value invariant-loop decreases-loop
 mul-value c =
-    let turn = c.before.before.before.before.before in
+    let turn = c in
     omega (arith, room turn.loop-left.invariant c.loop-left-test.true, scaled turn.loop-left.invariant (c.wide-byte.result - 128) 127 (omega arith))
 
 add-value : tie.Need-overflow_add-value invariant-loop decreases-loop
 add-value c =
-    let turn = c.before.before.before.before.before in
+    let turn = c in
     omega (arith, room turn.loop-left.invariant c.loop-left-test.true, scaled turn.loop-left.invariant (c.wide-byte.result - 128) 127 (omega arith))
 
 mul-weight : tie.Need-overflow_mul-weight invariant-loop decreases-loop
@@ -82,12 +82,12 @@ returns-4 c = last_broken c.loop-left.invariant c.loop-left-test.false _ _ c.req
 
 mul-t21 : tie.Need-overflow_mul-result-2 invariant-loop decreases-loop
 mul-t21 c =
-    let turn = c.before.before.before.before.before in
+    let turn = c in
     omega (arith, light turn.loop-left.invariant, scaled turn.loop-left.invariant c.wide-last.result 1 (omega arith))
 
 add-t22 : tie.Need-overflow_add-result-2 invariant-loop decreases-loop
 add-t22 c =
-    let turn = c.before.before.before.before.before in
+    let turn = c in
     omega (arith, light turn.loop-left.invariant, scaled turn.loop-left.invariant c.wide-last.result 1 (omega arith))
 
 add-t23 : tie.Need-overflow_add-result-3 invariant-loop decreases-loop
@@ -95,7 +95,7 @@ add-t23 c = omega arith
 
 returns-5 : tie.Need-returns invariant-loop decreases-loop
 returns-5 c =
-    let turn = c.before.before.before.before.before in
+    let turn = c in
     last_whole turn.loop-left.invariant _ _ c.requires c.if-end-at-2.false c.wide-last.ensures.0 (omega arith) (omega (arith, light turn.loop-left.invariant, scaled turn.loop-left.invariant c.wide-last.result 1 (omega arith)))
 
 pub read_within_spec : {M : Type 1} → statement M

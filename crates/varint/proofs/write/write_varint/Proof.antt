@@ -23,10 +23,10 @@ varint_size-requires : tie.Need-varint_size-size-requires invariant-loop decreas
 varint_size-requires c κs = search rules
 
 returns : tie.Need-returns-then-out-size invariant-loop decreases-loop
-returns c = (c.before.varint_size_lem.ensures, sym (fitted_short _ _ (omega (arith, c.before.varint_size_lem.ensures))))
+returns c = (c.varint_size-size.ensures, sym (fitted_short _ _ (omega (arith, c.varint_size-size.ensures))))
 
 loop-holds : tie.Need-loop-rest-init invariant-loop decreases-loop
-loop-holds c = (c.before.varint_size_lem.ensures, shrinking _ (omega arith), begins _ _ (omega (arith, c.before.varint_size_lem.ensures)))
+loop-holds c = (c.varint_size-size.ensures, shrinking _ (omega arith), begins _ _ (omega (arith, c.varint_size-size.ensures)))
 
 add-out : tie.Need-overflow_add-out invariant-loop decreases-loop
 add-out c = omega arith

@@ -27,7 +27,7 @@ loop-less : tie.Need-loop-smaller invariant-loop decreases-loop
 loop-less c = omega arith
 
 loop-again : tie.Need-loop-preserved invariant-loop decreases-loop
-loop-again c = plain_go _ _ _ _ _ c.before.before.before.before.loop.invariant c.before.before.before.loop-test.true _ _ c.before.before.plain_value.ensures c.before.if1.true c.next_value_lem.ensures
+loop-again c = plain_go _ _ _ _ _ c.before.before.before.before.loop.invariant c.before.before.before.loop-test.true _ _ c.before.before.plain_value.ensures c.before.if1.true c.next_value.ensures
 
 returns : tie.Need-returns invariant-loop decreases-loop
 returns c = plain_not _ _ _ _ _ c.before.before.before.loop.invariant c.before.before.loop-test.true _ c.before.plain_value.ensures c.if1.false
