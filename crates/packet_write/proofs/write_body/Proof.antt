@@ -68,7 +68,7 @@ same_length c = search rules
 
 returns : tie.Need-returns
 returns c =
-    let earlier = c in
+    let earlier = c.before.before.before.before in
     let start = start-parted (earlier) in
     body_written start.args.area.now start.args.parts.now start.args.out.now start.requires.1 (at_parted (earlier))
     c.seal.ensures

@@ -98,7 +98,7 @@ copied : (c : tie.After-slice_known-in-loop-index-1 invariant-loop decreases-loo
     (parts_at (start_of c.before.before.before.before).args.parts.now) c.loop-index.sum_at
     (c.loop-index.part_at + length c.part-bytes.result.now)
 copied c =
-    let at_part = c in
+    let at_part = c.before.before.before.before in
     let lent = is-part at_part in
     let from : ℕ = c.loop-index.part_at in
     part_written (here at_part) (contents (later at_part)) (from + length at_part.part-bytes.result.now) (still at_part) (ap (λ (bs : List ℕ). from + length bs) (sym lent))
@@ -106,7 +106,7 @@ copied c =
 
 add-part_at-2 : tie.Need-overflow_add-part_at-in-loop-index invariant-loop decreases-loop
 add-part_at-2 c =
-    let at_part = c in
+    let at_part = c.before.before.before.before in
     let lent = is-part at_part in
     let size = ap (λ (bs : List ℕ). length bs) lent in
     omega (arith, part_room (still at_part), parting_length (still at_part), length-append (here at_part) (contents (later at_part)), size)
@@ -141,7 +141,7 @@ loop-less c = search rules
 
 loop-again : tie.Need-loop-index-preserved invariant-loop decreases-loop
 loop-again c =
-    let at_part = c in
+    let at_part = c.before.before.before.before.before.before.before.before.before in
     let sum = swapped_back at_part.part-bytes.result.now c.copied-register.ensures.folded c.swap_bytes.ensures
     ∙ ap (λ (bs : List ℕ). checksum bs) (is-part at_part) ∙ sym (sum_content (this at_part)) in
     (search rules, word_put (sum_word (this at_part)) (sums (later at_part)) (copied c.before.before.before.before.before) (rw sum at c.write_u64.ensures))

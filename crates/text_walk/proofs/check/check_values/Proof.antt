@@ -80,8 +80,7 @@ returns-3 c =
     values_broken a.text.now a.start a.row a.before turn.at turn.count turn.bytes turn.size
     turn.invariant start.requires.1 start.requires.2 start.requires.3
     c.loop-at-test.true
-    (sym c.is_digit-digit.ensures ∙ not-false _
-    c.if-not-digit.false) (eqb-false _ _ c.if-full.false)
+    (sym c.is_digit-digit.ensures ∙ c.if-not-digit.false) (c.if-full.false)
     checked.result checked.ensures _ c.in-Broken.is
 
 enum_known-next : tie.Need-enum_known-next invariant-loop decreases-loop
@@ -114,7 +113,7 @@ add-bytes c =
       start.well_formed,
       whole_fits a.text.now a.start a.row a.before turn.at turn.count turn.bytes
           turn.size turn.invariant start.requires.1 start.requires.2 start.requires.3 test.true
-          (sym is_digit.ensures ∙ not-false _ if1.false) (eqb-false _ _ if2.false) checked.result checked.ensures
+          (sym is_digit.ensures ∙ if1.false) (if2.false) checked.result checked.ensures
           got.next got.length got.sum got.last got.is,
     )
 
@@ -128,9 +127,8 @@ returns-4 c =
     values_last a.text.now a.start a.row a.before turn.at turn.count turn.bytes turn.size
     turn.invariant start.requires.1 start.requires.2 start.requires.3
     c.loop-at-test.true
-    (sym c.is_digit-digit.ensures ∙ not-false _
-    c.if-not-digit.false)
-    (eqb-false _ _ c.if-full.false) checked.result checked.ensures got.next
+    (sym c.is_digit-digit.ensures ∙ c.if-not-digit.false)
+    (c.if-full.false) checked.result checked.ensures got.next
     got.length got.sum got.last got.is c.if-last.true
 
 loop-less : tie.Need-loop-at-smaller invariant-loop decreases-loop
@@ -166,9 +164,8 @@ loop-again c =
     values_more a.text.now a.start a.row a.before turn.at turn.count turn.bytes turn.size
     turn.invariant start.requires.1 start.requires.2 start.requires.3
     c.loop-at-test.true
-    (sym c.is_digit-digit.ensures ∙ not-false _
-    c.if-not-digit.false)
-    (eqb-false _ _ c.if-full.false) checked.result checked.ensures got.next
+    (sym c.is_digit-digit.ensures ∙ c.if-not-digit.false)
+    (c.if-full.false) checked.result checked.ensures got.next
     got.length got.sum got.last got.is c.if-last.false
 
 returns-5 : tie.Need-returns invariant-loop decreases-loop
