@@ -4,6 +4,12 @@ ghost use Rattle.std.specs.Prelude.{◌≡◌, ◌<◌, ◌≤◌, length};
 
 // What is lent, by functions that tell their arrays' lengths alone, so that no caller's proof looks into them.
 
+pub(crate) fn buffer() -> [u8; 4_096]
+    ensures { 4096 ≡ length result }
+{
+    [0; 4_096]
+}
+
 pub(crate) fn output() -> [u8; 8_192]
     ensures { 8192 ≡ length result }
 {
@@ -97,7 +103,7 @@ fn appended(number: u64, last: u8) -> u64 {
     if 1_844_674_407_370_955_161 < number {
         return number;
     }
-    std::num::wrapping_add_u64(number * 10, last as u64)
+    (number * 10).wrapping_add(last as u64)
 }
 
 pub(crate) fn number(text: &[u8]) -> u64 {
