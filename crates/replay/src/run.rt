@@ -28,10 +28,8 @@ fn updated(register: u64, text: &[u8]) -> u64 {
 // At most eight stretches.
 fn crc<W: Write>(to: &mut W, line: &[u8]) {
     let mut register = 0;
-    let mut index = 1;
-    while index < 9 {
+    for index in 1..9 {
         register = updated(register, word(line, index));
-        index += 1;
     }
     say::text(to, b"ok");
     say::checksum(to, cablefinch_finish(register));

@@ -30,10 +30,8 @@ pub(crate) fn bytes<W: Write>(to: &mut W, s: &[u8]) {
     if s.len() == 0 {
         text(to, b"-");
     }
-    let mut i = 0;
-    while i < s.len() {
-        byte(to, s[i]);
-        i += 1;
+    for value in s {
+        byte(to, *value);
     }
 }
 
@@ -49,14 +47,9 @@ pub(crate) fn words<W: Write>(to: &mut W, table: &[u64], count: usize) {
     if count == 0 {
         text(to, b"-");
     }
-    let mut i = 0;
-    while i < table.len() {
-        if i == count {
-            return;
-        }
+    for (i, value) in table.iter().take(count).enumerate() {
         comma(to, i == 0);
-        decimal(to, table[i]);
-        i += 1;
+        decimal(to, *value);
     }
 }
 
@@ -78,41 +71,32 @@ fn part<W: Write>(to: &mut W, offset: u64, length: u64, sum: u64) {
 
 // The first `count` entries of a part table.
 pub(crate) fn parts<W: Write>(to: &mut W, table: &[u64], count: usize) {
-    let mut i = 0;
-    while i < table.len() / packet::ENTRY_WORDS {
-        if i == count {
-            return;
-        }
+    for i in 0..count.min(table.len() / packet::ENTRY_WORDS) {
         part(
             to,
             table[packet::ENTRY_WORDS * i],
             table[packet::ENTRY_WORDS * i + 1],
             table[packet::ENTRY_WORDS * i + 2],
         );
-        i += 1;
     }
 }
 
 // Whether the words from `from` on hold what they were filled with.
 pub(crate) fn kept_words<W: Write>(to: &mut W, table: &[u64], from: usize) {
-    let mut i = from;
-    while i < table.len() {
+    for i in from..table.len() {
         if table[i] != 0xa5a5_a5a5_a5a5_a5a5 {
             text(to, b" touched");
             return;
         }
-        i += 1;
     }
 }
 
 pub(crate) fn kept_bytes<W: Write>(to: &mut W, buffer: &[u8], from: usize) {
-    let mut i = from;
-    while i < buffer.len() {
+    for i in from..buffer.len() {
         if buffer[i] != 0xa5 {
             text(to, b" touched");
             return;
         }
-        i += 1;
     }
 }
 
