@@ -1,5 +1,5 @@
 // What a reader holds, listed to a writer: the reading and writing of the programs that list. A write that fails is
-// passed over, as there is nobody left to tell it to.
+// passed over: whoever read the listing is gone.
 #![tactic(auto)]
 
 use input::Input;

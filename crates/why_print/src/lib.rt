@@ -1,5 +1,5 @@
 // What a reader holds, explained to a writer: the reading and writing of the programs that explain. A write that fails
-// is passed over, as there is nobody left to tell it to.
+// is passed over: whoever read the line is gone.
 #![tactic(auto)]
 
 use input::Input;
