@@ -27,10 +27,10 @@ enum_known-end : tie.Need-enum_known-end invariant-loop decreases-loop
 enum_known-end c = search rules
 
 same_length : tie.Need-shape_of-parts-in-Last invariant-loop decreases-loop
-same_length c = c.step.auto.1.1.0 ∙ c.loop-end.invariant.0
+same_length c = c.step.auto.parts ∙ c.loop-end.invariant.0
 
 same_length-2 : tie.Need-shape_of-out-in-Last invariant-loop decreases-loop
-same_length-2 c = c.step.auto.1.1.1.0 ∙ c.loop-end.invariant.1
+same_length-2 c = c.step.auto.out ∙ c.loop-end.invariant.1
 
 returns : tie.Need-returns-in-Last invariant-loop decreases-loop
 returns c =
@@ -54,7 +54,7 @@ loop-again c =
     let step = c.step in
     let told = rw found.is at step.ensures in
     let inv = c.loop-end.invariant in
-    (step.auto.1.1.0 ∙ inv.0, step.auto.1.1.1.0 ∙ inv.1, listing_goes_on (omega (arith, inv.2.early, inv.2.inside, c.requires)) inv.2 told)
+    (step.auto.parts ∙ inv.0, step.auto.out ∙ inv.1, listing_goes_on (omega (arith, inv.2.early, inv.2.inside, c.requires)) inv.2 told)
 
 pub lines_spec : {M : Type 1} → statement M
 lines_spec =

@@ -32,7 +32,7 @@ same_length-2 c = search rules
 returns-3 : tie.Need-returns
 returns-3 c = let a = c.args in
     let wrote = c.lines in
-    (output_lines a.input.now a.out.now c.if-out-lt-TEXT_ROOM.false c.if-input-gt-MAX_INPUT.false wrote.ensures, text_fits wrote.ensures wrote.auto.1.1.0)
+    (output_lines a.input.now a.out.now c.if-out-lt-TEXT_ROOM.false c.if-input-gt-MAX_INPUT.false wrote.ensures, text_fits wrote.ensures wrote.auto.out)
 
 pub list_spec : {M : Type 1} → statement M
 list_spec =

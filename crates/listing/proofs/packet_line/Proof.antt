@@ -39,10 +39,10 @@ put_field-requires-4 c κs =
     let put-field2 = c.put_field-id_at in
     let put-field3 = c.put_field-parts_at in
     let put_id = c.put_id-count_at in
-    omega (arith, c.requires, put-bytes.ensures.ends, put-field.ensures.1, put-field2.ensures.1, put-field3.ensures.1, put_id.ensures.1, put-bytes.auto.out, put-field.auto.out, put-field2.auto.out, put-field3.auto.out, put_id.auto.0)
+    omega (arith, c.requires, put-bytes.ensures.ends, put-field.ensures.1, put-field2.ensures.1, put-field3.ensures.1, put_id.ensures.1, put-bytes.auto.out, put-field.auto.out, put-field2.auto.out, put-field3.auto.out, put_id.auto.out)
 
 same_length : tie.Need-shape_of-out
-same_length c = omega (arith, c.put_bytes-type_at.auto.out, c.put_field-flags_at.auto.out, c.put_field-id_at.auto.out, c.put_field-parts_at.auto.out, c.put_id-count_at.auto.0, c.put_field.auto.0)
+same_length c = omega (arith, c.put_bytes-type_at.auto.out, c.put_field-flags_at.auto.out, c.put_field-id_at.auto.out, c.put_field-parts_at.auto.out, c.put_id-count_at.auto.out, c.put_field.auto.out)
 
 returns : tie.Need-returns
 returns c =
