@@ -1,5 +1,5 @@
 -- What the public functions of packing promise, by name. (The map of answers promises words' `Tells` of
--- `paperPacked`.) Assumes nothing.
+-- `paper_packed`.) Assumes nothing.
 use Rattle.std.specs.Prelude.{ℕ, ◌+◌, ◌≡◌, Bool, ◌&&◌, List, length}
 use Rattle.words.specs.Buffer.{stretch}
 use Rattle.words.specs.Decide.{◌<?◌}

@@ -69,7 +69,7 @@ WritingLiveIsArchiveBut24 =
     → (RetiredToWrite type area table → live ≡ validated.Refused (RetiredType retired_type))
     × ((RetiredToWrite type area table → ⊥) → live ≡ archive))
 
--- what a mode writes is of no type that it calls retired, so that the same mode reads it back (`written-is-lent`)
+-- what a mode writes is of no type that it calls retired, so that the same mode reads it back (`written_is_lent`)
 abbrev pub WrittenIsCurrent : Type 0
 WrittenIsCurrent =
     (mode : Mode) (type : PacketType) (flags : PacketFlags) (id : Guid) (area table out : List ℕ)

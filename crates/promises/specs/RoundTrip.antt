@@ -1,7 +1,7 @@
 -- Writing a packet and reading it: what comes back. Document 01: "Writing a valid packet and reading it with any tail,
 -- under limits and room that hold it, gives back its type, flags, id, nulls and part bytes and consumes exactly its
 -- bytes; each strict prefix gives need-more." Both sides cite one definition of what a packet is on the wire,
--- `packetBytes`. Assumes nothing.
+-- `packet_bytes`. Assumes nothing.
 use Rattle.std.specs.Prelude.{ℕ, ◌+◌, ◌^◌, ◌≤◌, ◌<◌, true, false, List, [], ◌∷◌, ◌++◌, ◌≡◌, length, get_or, take}
 use Rattle.words.specs.Answer.{accepted, more}
 use Rattle.packet.specs.Layout.{null_size, largest_part, most_parts, last_type, has_variable_header, size, part}

@@ -1,5 +1,5 @@
 -- What `encoded_size` and `first_bad` promise, by name. (The map of answers promises words' `Tells` of
--- `paperMeasured`.) Assumes nothing.
+-- `paper_measured`.) Assumes nothing.
 use Rattle.std.specs.Prelude.{ℕ, List, ◌≡◌, length}
 use Rattle.words.specs.Statement.{Means}
 use Rattle.wire_check.specs.Writing.{first_bad, measuring}

@@ -1,5 +1,5 @@
 -- What each public function promises, by name, over the inputs, the result and the lent tables at entry and at exit.
--- (The map of answers promises words' `Tells` of `paperDecoded`.) Assumes nothing.
+-- (The map of answers promises words' `Tells` of `paper_decoded`.) Assumes nothing.
 use Rattle.std.specs.Prelude.{ℕ, ◌≡◌, Bool, List, length}
 use Rattle.words.specs.Statement.{Means, Holds}
 use Rattle.wire.specs.Layout.{count_at, row_words, value_words}

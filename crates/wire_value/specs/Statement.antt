@@ -1,4 +1,4 @@
--- What each public function promises, by name. (The map of answers promises words' `Tells` of `paperValue`.) Assumes
+-- What each public function promises, by name. (The map of answers promises words' `Tells` of `paper_value`.) Assumes
 -- nothing.
 use Rattle.std.specs.Prelude.{ℕ, ◌≤◌, ◌≡◌, List, length}
 use Rattle.words.specs.Answer.{Answer}

@@ -1,4 +1,4 @@
--- What `encode_rowset` promises, by name. (The map of answers promises words' `Tells` of `paperEncoded`.) Assumes
+-- What `encode_rowset` promises, by name. (The map of answers promises words' `Tells` of `paper_encoded`.) Assumes
 -- nothing.
 use Rattle.std.specs.Prelude.{ℕ, List, length}
 use Rattle.words.specs.Statement.{Means, Holds}

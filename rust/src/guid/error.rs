@@ -5,7 +5,7 @@ use crate::table::count;
 use std::fmt::{self, Write as _};
 
 /// How many bytes of a refused text its error keeps, to show them. A text goes wrong at byte 35 at the
-/// latest, and what stands before it are digits and dashes (the promise `place-shows`), so the place and
+/// latest, and what stands before it are digits and dashes (the promise `place_shows`), so the place and
 /// what stands there are among them.
 const KEPT: usize = 48;
 
