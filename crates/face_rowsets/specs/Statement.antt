@@ -4,8 +4,7 @@ use Rattle.std.specs.Prelude.{ℕ, List, length}
 use Rattle.words.specs.Paper.{Tells}
 use Rattle.words.specs.Statement.{Holds}
 use Rattle.words.specs.declared.outcome.Outcome.{Outcome}
-use Rattle.wire.specs.Layout.{count_at, row_words, value_words}
-use Rattle.wire.specs.Content.{rows_in, bytes_of_rows}
+use Rattle.wire.specs.Layout.{count_at, row_words, value_words, rowset_bytes}
 use Rattle.wire_value.specs.ValueOrder.{value_reading}
 use Rattle.wire_read.specs.Reading as rowset
 use Rattle.wire_check.specs.Writing as rowsetWriting
@@ -21,7 +20,7 @@ DecodesRowset s rows values r rows' values' =
 abbrev pub EncodesRowset : List ℕ → List ℕ → List ℕ → List ℕ → Outcome → List ℕ → Type 0
 EncodesRowset area rows values before r after =
     let answer = rowsetWriting.writing area rows values (length before) in
-    Tells answer r × Holds answer (bytes_of_rows (rows_in area rows values)) before after
+    Tells answer r × Holds answer (rowset_bytes area rows values) before after
 
 abbrev pub MeasuresRowset : List ℕ → List ℕ → List ℕ → Outcome → Type 0
 MeasuresRowset area rows values r = Tells (rowsetWriting.measuring area rows values) r

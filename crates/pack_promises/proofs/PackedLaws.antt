@@ -100,23 +100,23 @@ module _ (area values tail : List ℕ) (whole : length values % entry_words ≡ 
 
       here : k < length values → Same area values (packed_bytes area values (entries_in values) ++ tail) (packed values) k
       here h =
-          let at : entry_words * (k / entry_words) ≡ k = omega arith in
-          let below : k / entry_words < entries_in values = omega arith in
+          let at : 5 * (k / 5) ≡ k = omega arith in
+          let below : k / 5 < entries_in values = omega arith in
           record {
             id = packed_other values k (λ e. omega arith);
             type = packed_other values (k + 1) (λ e. omega arith);
             aggregate = packed_other values (k + 2) (λ e. omega arith);
             size = packed_other values (k + 4) (λ e. omega arith);
-            bytes = rw at at (moved (k / entry_words) below);
-            bits = λ b. rw at at (offset_new values (k / entry_words) below ∙ word_other values (k / entry_words) (rw at b));
+            bytes = rw at at (moved (k / 5) below);
+            bits = λ b. rw at at (offset_new values (k / 5) below ∙ word_other values (k / 5) (rw at b));
           }
 
-  good_at : (i : ℕ) → i < entries_in values → bad_entry (length area) values (entry_words * i) ≡ false
-  good_at i h = good (entry_words * i) (omega arith) (omega arith)
+  good_at : (i : ℕ) → i < entries_in values → bad_entry (length area) values (5 * i) ≡ false
+  good_at i h = good (5 * i) (omega arith) (omega arith)
 
-  good_packed : (i : ℕ) → i < entries_in values → bad_entry (length (packed_bytes area values (entries_in values) ++ tail)) (packed values) (entry_words * i) ≡ false
+  good_packed : (i : ℕ) → i < entries_in values → bad_entry (length (packed_bytes area values (entries_in values) ++ tail)) (packed values) (5 * i) ≡ false
   good_packed i h =
-      rw (packed_other values (entry_words * i) (λ e. omega arith), type_kept values i, packed_other values (entry_words * i + 2) (λ e. omega arith), length_kept values i)
+      rw (packed_other values (5 * i) (λ e. omega arith), type_kept values i, packed_other values (5 * i + 2) (λ e. omega arith), length_kept values i)
       (⊎_elim
       (λ (b : blob (type_at values i) ≡ true). bad_moved (length area) _ _ _ _ (offset_at values i) _ _ (good_at i h) b (moved_inside i h b))
       (λ (b : blob (type_at values i) ≡ false). rw (offset_new values i h, word_other values i b) (bad_other (length area) _ _ _ _ _ _ (good_at i h) b))
@@ -125,7 +125,7 @@ module _ (area values tail : List ℕ) (whole : length values % entry_words ≡ 
   -- no entry is bad, before and after
   pub none_after : first_bad (length (packed_bytes area values (entries_in values) ++ tail)) (packed values) ≡ entries_in values
   none_after =
-      let long : entries_in (packed values) ≡ entries_in values = ap (λ (n : ℕ). n / entry_words) (packed_long values) in
+      let long : entries_in (packed values) ≡ entries_in values = ap (λ (n : ℕ). n / 5) (packed_long values) in
       none_found (packed_bytes area values (entries_in values) ++ tail) (packed values) (λ i h. good_packed i (omega arith)) ∙ long
 
   pub found_same : first_bad (length (packed_bytes area values (entries_in values) ++ tail)) (packed values) ≡ first_bad (length area) values

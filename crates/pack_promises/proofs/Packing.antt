@@ -17,8 +17,7 @@ use Rattle.words.specs.declared.outcome.NoRoom as words
 use Rattle.words.specs.declared.outcome.Room.TheVariants.{Output}
 use Rattle.words.proofs.DecideLaws.{le_or_gt}
 use Rattle.words.proofs.PaperLaws.{no_room_of, no_room_back}
-use Rattle.wire.specs.Layout.{entry_words, blob}
-use Rattle.wire.specs.Content.{rows_in, bytes_of_rows}
+use Rattle.wire.specs.Layout.{entry_words, blob, rowset_bytes}
 use Rattle.wire.specs.declared.error.WireError.TheVariants.{NoRoom}
 use Rattle.wire.proofs.PaperLaws.{paper_keeps}
 use Rattle.wire_check.specs.Writing.{entries_in, first_bad, writing}
@@ -39,7 +38,7 @@ use Rattle.pack_answer.specs.declared.answer.Packed.TheVariants.{Filled, Refused
 use Rattle.pack_answer.proofs.Unique.{packs_unique}
 use Rattle.pack_promises.specs.Packing.{Begins, PackKeepsContent, PackMovesOffsetsAlone, PackWritesTheSame, PackTwice, PackPairs, PackRoom, PackAccepts, PackRefusalKeeps}
 use Rattle.pack_promises.proofs.TwiceLaws.{packed_long, packed_other, offset_new, room_kept, packed_twice, bytes_twice}
-use Rattle.pack_promises.proofs.SameLaws.{content_as_before, writing_as_before}
+use Rattle.pack_promises.proofs.SameLaws.{content_as_before, bytes_as_before, writing_as_before}
 use Rattle.pack_promises.proofs.PackedLaws.{packed_same, found_same, none_after, word_other}
 use Rattle.pack_promises.proofs.OnceLaws.{once, none_had}
 use Rattle.pack_promises.proofs.FilledLaws.{Filling, filling, packs, none_found, last_decided}
@@ -77,26 +76,26 @@ pack_writes_the_same area values out n values' out' told second same rows output
     let at : second ≡ packed_bytes area values (entries_in values) ++ drop n second = begins area values out n values' out' told second same in
     let answers : writing second rows values' (length output) ≡ writing area rows values (length output) =
     rw (at, f.table) (writing_as_before area values (packed_bytes area values (entries_in values) ++ drop n second) (packed values) each (packed_long values) (found_same area values (drop n second) f.whole f.good) rows (length output)) in
-    let bytes : bytes_of_rows (rows_in second rows values') ≡ bytes_of_rows (rows_in area rows values) =
-    ap bytes_of_rows (pack_keeps_content area values out n values' out' told second same rows) in
-    let as_before : Encodes area rows values output w' after' = (now.0 ∙ answers, now.1 ∙ ap (λ (a : Answer). afterwards a (bytes_of_rows (rows_in second rows values')) output) answers ∙ ap (λ (l : List ℕ). afterwards (writing area rows values (length output)) l output) bytes) in
+    let bytes : rowset_bytes second rows values' ≡ rowset_bytes area rows values =
+    rw (at, f.table) (bytes_as_before area values (packed_bytes area values (entries_in values) ++ drop n second) (packed values) each rows) in
+    let as_before : Encodes area rows values output w' after' = (now.0 ∙ answers, now.1 ∙ ap (λ (a : Answer). afterwards a (rowset_bytes second rows values') output) answers ∙ ap (λ (l : List ℕ). afterwards (writing area rows values (length output)) l output) bytes) in
     let one = encode_rowset_unique area rows values output (w', after') (w, after) as_before before in
     (ap (λ (x : Encoded × List ℕ). x.0) one, ap (λ (x : Encoded × List ℕ). x.1) one)
 
 -- Of the table, the offsets of blobs change alone.
 
-offsets_alone : (values : List ℕ) (k : ℕ) → length values % entry_words ≡ 0 → (k % entry_words ≡ 3 → blob (type_at values (k / entry_words)) ≡ true → ⊥) → get_or (packed values) k 0 ≡ get_or values k 0
+offsets_alone : (values : List ℕ) (k : ℕ) → length values % 5 ≡ 0 → (k % entry_words ≡ 3 → blob (type_at values (k / entry_words)) ≡ true → ⊥) → get_or (packed values) k 0 ≡ get_or values k 0
 offsets_alone values k whole other =
     ⊎_elim
     (λ (past : length values ≤ k). get_or-eq_default (packed values) 0 (omega (arith, packed_long values)) ∙ sym (get_or-eq_default values 0 past))
     (λ (below : k < length values).
     ⊎_elim
-    (λ (e : ((k % entry_words) =? 3) ≡ true).
-    let at : k % entry_words ≡ 3 = eqb-true (k % entry_words) 3 e in
-    let place : entry_words * (k / entry_words) + 3 ≡ k = omega arith in
-    rw place at (offset_new values (k / entry_words) (omega arith) ∙ word_other values (k / entry_words) (not_true_false (blob (type_at values (k / entry_words))) (other at))))
-    (λ (e : ((k % entry_words) =? 3) ≡ false). packed_other values k (eqb-false (k % entry_words) 3 e))
-    (either ((k % entry_words) =? 3)))
+    (λ (e : ((k % 5) =? 3) ≡ true).
+    let at : k % 5 ≡ 3 = eqb-true (k % 5) 3 e in
+    let place : 5 * (k / 5) + 3 ≡ k = omega arith in
+    rw place at (offset_new values (k / 5) (omega arith) ∙ word_other values (k / 5) (not_true_false (blob (type_at values (k / 5))) (other at))))
+    (λ (e : ((k % 5) =? 3) ≡ false). packed_other values k (eqb-false (k % 5) 3 e))
+    (either ((k % 5) =? 3)))
     (le_or_gt (length values) k)
 
 -- A refusal changes nothing.
@@ -120,7 +119,7 @@ pack_twice area values out n values' out' told second same third r values'' thir
     let f = filling area values out n values' out' told in
     let at : second ≡ packed_bytes area values (entries_in values) ++ drop n second = begins area values out n values' out' told second same in
     let inside : Inside area values = good_inside area values f.whole f.good in
-    let entries-kept : entries_in (packed values) ≡ entries_in values = ap (λ (k : ℕ). k / entry_words) (packed_long values) in
+    let entries-kept : entries_in (packed values) ≡ entries_in values = ap (λ (k : ℕ). k / 5) (packed_long values) in
     let needs : needed (packed values) ≡ needed values = ap (room (packed values)) entries-kept ∙ room_kept values (entries_in values) (omega arith) in
     let none : first_bad (length second) values' ≡ entries_in values' =
     rw (f.table, entries-kept) (rw (at) (none_after area values (drop n second) f.whole f.good)) in

@@ -1,5 +1,5 @@
 -- Two value tables, each over an area, whose entries have the same words but for where their blobs lie, and blobs
--- with the same bytes: the same content, and the same sizes and limits in writing. Assumes nothing.
+-- with the same bytes: the same content, and the same bytes, sizes and limits in writing. Assumes nothing.
 use mathlib.Core.Path.{◌≡◌, refl, ◌∙◌, ap}
 use mathlib.Core.Bool.{true, false}
 use mathlib.Core.Logic.{⊎_elim}
@@ -9,7 +9,7 @@ use native.Mathlib.Omega.{arith}
 use lib.ListN.{length, get_or}
 use Rattle.words.specs.Buffer.{stretch}
 use Rattle.words.specs.Decide.{Line}
-use Rattle.wire.specs.Layout.{entry_words, blob, values_in}
+use Rattle.wire.specs.Layout.{entry_words, blob, values_in, payload_bytes, value_bytes, entry_bytes, values_bytes, row_bytes, rows_bytes, rowset_bytes}
 use Rattle.wire.specs.Content.{Cell, Row, cell_in, cells_in, content_in, row_in, rows_from, rows_in}
 use Rattle.wire_check.specs.Writing.{first_bad, value_size, values_size, row_size, rows_size, rowset_size, values_limits, rows_limits, check_lines, writing}
 use Rattle.pack_pairs.proofs.PairLaws.{either}
@@ -56,6 +56,35 @@ module _ (area t second u : List ℕ) (each : (k : ℕ) → k % entry_words ≡ 
 
   pub content_as_before : (rows : List ℕ) → rows_in second rows u ≡ rows_in area rows t
   content_as_before rows = rows_same rows 0 refl
+
+  -- The bytes
+
+  payload_same : (k : ℕ) → Same area t second u k
+      → payload_bytes second (get_or t (k + 1) 0) (get_or u (k + 3) 0) (get_or t (k + 4) 0) ≡ payload_bytes area (get_or t (k + 1) 0) (get_or t (k + 3) 0) (get_or t (k + 4) 0)
+  unfolding payload_bytes
+  payload_same k same =
+      ⊎_elim (λ (b : blob (get_or t (k + 1) 0) ≡ true). rw (b, same.bytes b)) (λ (b : blob (get_or t (k + 1) 0) ≡ false). rw (b, same.bits b)) (either (blob (get_or t (k + 1) 0)))
+
+  entry_same : (k : ℕ) → k % entry_words ≡ 0 → entry_bytes second u k ≡ entry_bytes area t k
+  unfolding value_bytes
+  entry_same k aligned =
+      let same = each k aligned in
+      rw (same.id, same.type, same.aggregate, same.size, payload_same k same)
+
+  values_same : (n k : ℕ) → k % entry_words ≡ 0 → values_bytes second u n k ≡ values_bytes area t n k
+  unfolding values_bytes
+  values_same zero k aligned = refl
+  values_same (suc n) k aligned = rw (entry_same k aligned, values_same n (k + entry_words) (omega arith))
+
+  rows_bytes_same : (rows : List ℕ) (k : ℕ) → k % entry_words ≡ 0 → rows_bytes second rows u k ≡ rows_bytes area rows t k
+  unfolding rows_bytes row_bytes
+  rows_bytes_same [] k aligned = refl
+  rows_bytes_same (count ∷ rows) k aligned =
+      rw (values_same (values_in count) k aligned, rows_bytes_same rows (k + entry_words * values_in count) (omega arith))
+
+  pub bytes_as_before : (rows : List ℕ) → rowset_bytes second rows u ≡ rowset_bytes area rows t
+  unfolding rowset_bytes
+  bytes_as_before rows = rw (rows_bytes_same rows 0 refl)
 
   -- Sizes and limits
 

@@ -11,7 +11,7 @@ use borrow.Author.Tests.{eq-eqb, eqb-true, eqb-false, ltb-true}
 use Rattle.words.specs.Decide.{pick, ◌<?◌, ◌=?◌}
 use Rattle.words.specs.Buffer.{stretch}
 use Rattle.words.proofs.DecideLaws.{le_or_gt}
-use Rattle.wire.specs.Layout.{blob, entry_words}
+use Rattle.wire.specs.Layout.{blob}
 use Rattle.wire_check.specs.Writing.{entries_in}
 use Rattle.pack_pairs.specs.Pairs.{type_at, offset_at, length_at, stored}
 use Rattle.pack_pairs.specs.Stages.{Alike, New, first_use, is_new, room_of, room, new_offset, new_word, packed_word, packed, packed_bytes, Inside}
@@ -59,23 +59,23 @@ module _ (values : List ℕ) where
   unfolding packed
   packed_at k h = let on : 0 + k ≡ k = omega arith in rw on at (get_d_table (packed_word values) 0 (length values) k h)
 
-  pub packed_other : (k : ℕ) → (k % entry_words ≡ 3 → ⊥) → get_or (packed values) k 0 ≡ get_or values k 0
+  pub packed_other : (k : ℕ) → (k % 5 ≡ 3 → ⊥) → get_or (packed values) k 0 ≡ get_or values k 0
   packed_other k other =
       ⊎_elim (λ (h : length values ≤ k). get_or-eq_default (packed values) 0 (omega (arith, packed_long)) ∙ sym (get_or-eq_default values 0 h))
       (λ (h : k < length values). packed_at k h ∙ packed_else values k other)
       (le_or_gt (length values) k)
 
   pub type_kept : (i : ℕ) → type_at (packed values) i ≡ type_at values i
-  type_kept i = packed_other (entry_words * i + 1) (λ e. omega arith)
+  type_kept i = packed_other (5 * i + 1) (λ e. omega arith)
 
   pub length_kept : (i : ℕ) → length_at (packed values) i ≡ length_at values i
-  length_kept i = packed_other (entry_words * i + 4) (λ e. omega arith)
+  length_kept i = packed_other (5 * i + 4) (λ e. omega arith)
 
   pub stored_kept : (i : ℕ) → stored (packed values) i ≡ stored values i
   stored_kept i = rw (type_kept i, length_kept i)
 
   pub offset_new : (i : ℕ) → i < entries_in values → offset_at (packed values) i ≡ new_word values i
-  offset_new i h = packed_at (entry_words * i + 3) (omega arith) ∙ packed_fourth values i
+  offset_new i h = packed_at (5 * i + 3) (omega arith) ∙ packed_fourth values i
 
   pub offset_stored : (i : ℕ) → i < entries_in values → stored values i ≡ true → offset_at (packed values) i ≡ new_offset values i
   offset_stored i h s = offset_new i h ∙ new_word_stored values i s
@@ -130,7 +130,7 @@ module _ (values : List ℕ) where
       ∙ ⊎_elim (λ (b : blob (type_at values i) ≡ true). rw b) (λ (b : blob (type_at values i) ≡ false). rw (b, offset_new i h, b)) (either (blob (type_at values i))))
 
   -- the table
-  pub packed_twice : length values % entry_words ≡ 0 → packed (packed values) ≡ packed values
+  pub packed_twice : length values % 5 ≡ 0 → packed (packed values) ≡ packed values
   unfolding packed
   packed_twice whole =
       sym (table_same (packed_word (packed values)) (packed values) (λ k h. packed_at k (omega (arith, packed_long)) ∙ same_word k (omega (arith, packed_long))))
@@ -138,9 +138,9 @@ module _ (values : List ℕ) where
       same_word : (k : ℕ) → k < length values → packed_word values k ≡ packed_word (packed values) k
       same_word k h =
           ⊎_elim
-          (λ (e : ((k % entry_words) =? 3) ≡ true). let at : k % entry_words ≡ 3 = eqb-true (k % entry_words) 3 e in rw e (sym (word_kept (k / entry_words) (omega arith))))
-          (λ (e : ((k % entry_words) =? 3) ≡ false). let other : k % entry_words ≡ 3 → ⊥ = eqb-false (k % entry_words) 3 e in packed_else values k other ∙ sym (packed_other k other) ∙ sym (packed_else (packed values) k other))
-          (either ((k % entry_words) =? 3))
+          (λ (e : ((k % 5) =? 3) ≡ true). let at : k % 5 ≡ 3 = eqb-true (k % 5) 3 e in rw e (sym (word_kept (k / 5) (omega arith))))
+          (λ (e : ((k % 5) =? 3) ≡ false). let other : k % 5 ≡ 3 → ⊥ = eqb-false (k % 5) 3 e in packed_else values k other ∙ sym (packed_other k other) ∙ sym (packed_else (packed values) k other))
+          (either ((k % 5) =? 3))
 
   -- and the bytes
   pub bytes_twice : (area tail : List ℕ) → Inside area values → (n : ℕ) → n ≤ entries_in values

@@ -30,6 +30,10 @@ is_outside given offset size = not (is_null offset size) && given <? (offset + s
 abbrev pub is_too_large : ℕ → ℕ → Bool
 is_too_large offset size = not (is_null offset size) && largest_part <? size
 
+-- the bytes that its part takes
+abbrev pub taken : ℕ → ℕ → ℕ
+taken offset size = pick (is_null offset size) 0 size
+
 module _ (table : List ℕ) (i : ℕ) where
   -- the words of entry i
   abbrev pub offset_at : ℕ

@@ -14,25 +14,31 @@ type_number Message = 0
 type_number Ack = 1
 type_number SslAck = 2
 
--- an error's number, and the values that it carries
-abbrev pub numbered : PacketError → ℕ × List ℕ
-numbered (Signature found) = (1, found ∷ [])
-numbered (UnknownType found) = (2, found ∷ [])
-numbered (TooManyParts count) = (3, count ∷ [])
-numbered (PartTooLarge index size) = (4, index ∷ size ∷ [])
-numbered (FixedHeaderChecksum stored computed) = (5, stored ∷ computed ∷ [])
-numbered (VariableHeaderChecksum stored computed) = (6, stored ∷ computed ∷ [])
-numbered (PartChecksum index stored computed) = (7, index ∷ stored ∷ computed ∷ [])
-numbered (MessageTooLarge size limit) = (8, size ∷ limit ∷ [])
-numbered (NoRoom short) = (17, no_room_values short)
-numbered (BadTable rule position) = (18, rule ∷ position ∷ [])
-numbered (RetiredType found) = (24, found ∷ [])
-
 abbrev pub number_of : PacketError → ℕ
-number_of error = (numbered error).0
+number_of (Signature found) = 1
+number_of (UnknownType found) = 2
+number_of (TooManyParts count) = 3
+number_of (PartTooLarge index size) = 4
+number_of (FixedHeaderChecksum stored computed) = 5
+number_of (VariableHeaderChecksum stored computed) = 6
+number_of (PartChecksum index stored computed) = 7
+number_of (MessageTooLarge size limit) = 8
+number_of (NoRoom short) = 17
+number_of (BadTable rule position) = 18
+number_of (RetiredType found) = 24
 
 abbrev pub values_of : PacketError → List ℕ
-values_of error = (numbered error).1
+values_of (Signature found) = found ∷ []
+values_of (UnknownType found) = found ∷ []
+values_of (TooManyParts count) = count ∷ []
+values_of (PartTooLarge index size) = index ∷ size ∷ []
+values_of (FixedHeaderChecksum stored computed) = stored ∷ computed ∷ []
+values_of (VariableHeaderChecksum stored computed) = stored ∷ computed ∷ []
+values_of (PartChecksum index stored computed) = index ∷ stored ∷ computed ∷ []
+values_of (MessageTooLarge size limit) = size ∷ limit ∷ []
+values_of (NoRoom short) = no_room_values short
+values_of (BadTable rule position) = rule ∷ position ∷ []
+values_of (RetiredType found) = found ∷ []
 
 abbrev pub refusal : PacketError → ℕ → Answer
 refusal error consumed = refused (number_of error) (values_of error) consumed

@@ -10,10 +10,10 @@ use borrow.Author.Tests.{ltb-false}
 use Rattle.words.proofs.DecideLaws.{first_none}
 use Rattle.packet.specs.Layout.{largest_part}
 use Rattle.packet.specs.Entries.{room}
-use Rattle.packet.specs.Entries.{is_null, is_too_large, offset_at, size_at, null_at, outside_at, too_large_at}
+use Rattle.packet.specs.Entries.{is_null, is_too_large, taken, offset_at, size_at, null_at, outside_at, too_large_at}
 use Rattle.packet.specs.Wire.{content, contents, packet_size, part_at, parts_from, parts_of}
 use Rattle.packet_check.specs.Checks.{first_outside, first_too_large}
-use Rattle.packet_check.specs.Stages.{Passes, size_by, taken, taken_from}
+use Rattle.packet_check.specs.Stages.{Passes, size_by, taken_from}
 use Rattle.packet.proofs.EntryLaws.{inside}
 
 -- a part that is not too large takes no more than the largest

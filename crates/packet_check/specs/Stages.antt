@@ -1,8 +1,8 @@
 -- What private functions, here and in the writer, hand on; nobody has to believe it. Assumes nothing.
 use Rattle.std.specs.Prelude.{ℕ, zero, suc, ◌+◌, ◌%◌, ◌≤◌, List, ◌≡◌, length}
-use Rattle.words.specs.Decide.{pick, first}
+use Rattle.words.specs.Decide.{first}
 use Rattle.packet.specs.Layout.{most_parts}
-use Rattle.packet.specs.Entries.{entry_words, room, offset_at, size_at, is_null, is_outside}
+use Rattle.packet.specs.Entries.{entry_words, room, offset_at, size_at, is_outside, taken}
 use Rattle.packet.specs.Wire.{size_of}
 use Rattle.packet_check.specs.Checks.{first_outside, first_too_large}
 
@@ -14,10 +14,7 @@ outside_of given table = first (λ (i : ℕ). is_outside given (offset_at table 
 abbrev pub Small : List ℕ → Type 0
 Small table = (room table ≤ most_parts) × (room table ≤ first_too_large table)
 
--- the bytes that the part of an entry takes, and those of k parts, from part i on
-abbrev pub taken : ℕ → ℕ → ℕ
-taken offset size = pick (is_null offset size) 0 size
-
+-- the bytes that k parts take, from part i on
 unfoldable pub taken_from : List ℕ → ℕ → ℕ → ℕ
 taken_from table i zero = 0
 taken_from table i (suc k) = taken (offset_at table i) (size_at table i) + taken_from table (i + 1) k

@@ -4,9 +4,9 @@
 ghost use Rattle.std.specs.Prelude.{◌≡◌, ◌≤◌, ◌*◌};
 ghost use Rattle.packet.specs.Layout.{largest_part};
 ghost use Rattle.packet.specs.Paper.{type_number};
-ghost use Rattle.packet.specs.Entries.{room, is_too_large};
+ghost use Rattle.packet.specs.Entries.{room, is_too_large, taken};
 ghost use Rattle.packet_check.specs.Checks.{capped, first_too_large};
-ghost use Rattle.packet_check.specs.Stages.{outside_of, Small, size_by, taken, taken_from};
+ghost use Rattle.packet_check.specs.Stages.{outside_of, Small, size_by, taken_from};
 ghost use Rattle.packet_check.specs.Statement.{Validates, Measures};
 
 use packet::{

@@ -15,7 +15,7 @@ pub mod Guarded
 pub mod CellRound
 pub mod ContentRound
 pub mod TableContent
-pub mod TablesWritable
+pub mod TableBytes
 pub mod RowsetWriter
 pub mod RowsetReader
 pub mod PlainForm

@@ -34,7 +34,7 @@ use Rattle.promises.specs.Rowsets.{PlainAt, rows_read, values_read, WrittenBack,
 use Rattle.promises.proofs.CellRound.{by_test, drop_behind, one_byte, small_flag}
 use Rattle.promises.proofs.ContentLaws.{length_cells_at, length_rows_at, total_read}
 use Rattle.promises.proofs.TableContent.{word_there, entry_append, behind_entry, tables_filled}
-use Rattle.promises.proofs.TablesWritable.{null_type_lem, AllowedFrom}
+use Rattle.promises.proofs.TableBytes.{null_type_lem, AllowedFrom}
 use Rattle.promises.proofs.RowsetWriter.{rowset_writer_accepts}
 use Rattle.promises.proofs.RowsetReader.{rowset_reader_accepts}
 use Rattle.promises.proofs.PlainForm.{plain_exactly}

@@ -15,7 +15,7 @@ use Rattle.words.specs.declared.outcome.Room.TheVariants.{Output}
 use Rattle.words.specs.Decide.{pick, decide, first}
 use Rattle.words.specs.Buffer.{over}
 use Rattle.words.proofs.DecideLaws.{first_all}
-use Rattle.wire.specs.Layout.{null_mark, max_rows, max_values, max_length, max_size, entry_words, boolean, scalar, blob, known, values_in}
+use Rattle.wire.specs.Layout.{null_mark, max_rows, max_values, max_length, max_size, entry_words, boolean, scalar, blob, known, values_in, rowset_bytes}
 use Rattle.wire.specs.declared.error.WireError.TheVariants.{NoRoom}
 use Rattle.wire_check.specs.Writing.{id_in, type_in, aggregate_in, bits_in, length_in, entries_in, total, bad, bad_entry, first_bad, value_size, values_size, row_size, rows_size, rowset_size, value_order, count_order, writing}
 use Rattle.wire_check.specs.Stages.{table_order, fit_values, fit_row, fit_rows, fitting}
@@ -26,14 +26,13 @@ use Rattle.wire_write.specs.declared.write.Encoded.TheVariants.{Written, Refused
 use Rattle.wire_write.specs.Paper.{paper_encoded}
 use Rattle.wire_write.specs.Statement.{Encodes}
 use Rattle.wire_write.proofs.LengthLaws.{rowset_length}
-use Rattle.wire_write.proofs.ContentLaws.{rowset_bytes_lem}
 use Rattle.wire_write.proofs.Unique.{encoded_one}
 use Rattle.wire_write.proofs.EncodeLaws.{encodes_told}
 use Rattle.wire_check.proofs.LinesLaws.{writing_walks}
 use Rattle.wire.specs.Content.{rows_in, bytes_of_rows}
 use Rattle.promises.specs.RowsetWriter.{Allowed, table_bytes, Encodable, RowsetWriterAccepts}
 use Rattle.promises.proofs.CellRound.{by_test}
-use Rattle.promises.proofs.TablesWritable.{AllowedFrom, allowed_first, allowed_next, allowed_rest}
+use Rattle.promises.proofs.TableBytes.{AllowedFrom, allowed_first, allowed_next, allowed_rest, rowset_bytes_lem}
 
 -- accepted, or refused by 17 alone
 abbrev pub lets : Answer → Bool
@@ -164,8 +163,8 @@ module _ (area rows values : List ℕ) where
   pub from_front : ((i : ℕ) → i < total rows → Allowed area values (entry_words * i)) → AllowedFrom area values (total rows) 0
   from_front each i less = let place : entry_words * i ≡ 0 + entry_words * i = omega arith in rw place at (each i less)
 
-  measured : Sound area rows values → length (table_bytes area rows values) ≡ rowset_size rows values
-  measured sound = ap length (sym (rowset_bytes_lem area rows values sound)) ∙ rowset_length area rows values sound
+  pub bytes_same : ((i : ℕ) → i < total rows → Allowed area values (entry_words * i)) → rowset_bytes area rows values ≡ table_bytes area rows values
+  bytes_same each = rowset_bytes_lem area values rows (from_front each)
 
   to_front : AllowedFrom area values (total rows) 0 → (i : ℕ) → i < total rows → Allowed area values (entry_words * i)
   to_front each i less = let place : 0 + entry_words * i ≡ entry_words * i = omega arith in rw place at (each i less)
@@ -185,7 +184,7 @@ module _ (area rows values : List ℕ) where
       let all : length values ≡ entry_words * total rows = sound.whole in
       let walk = rows_let area values sound.good rows 0 0 8 rest refl (omega arith) (omega arith) tenth.1 in
       let entries = to_front walk.1 in
-      let size : length (table_bytes area rows values) ≡ 8 + rows_size rows values 0 = measured sound in
+      let size : length (table_bytes area rows values) ≡ 8 + rows_size rows values 0 = ap length (sym (bytes_same entries)) ∙ rowset_length area rows values sound in
       (record { whole = all; entries = entries; few_rows = few; counts = walk.0; small = omega (arith, walk.2) }, size, walk.3)
 
   module _ (e : Encodable area rows values) where
@@ -200,7 +199,7 @@ module _ (area rows values : List ℕ) where
         }
 
     pub size_is : length (table_bytes area rows values) ≡ rowset_size rows values
-    size_is = measured sound
+    size_is = ap length (sym (bytes_same e.entries)) ∙ rowset_length area rows values sound
 
     none_first : first_bad (length area) values ≡ 0 + entries_in values
     unfolding first_bad
@@ -233,7 +232,7 @@ rowset_writer_accepts area rows values before r after encodes = (
         found.0,
         sym room.1 ∙ sym size,
         omega (arith, size),
-        encodes_told area rows values before r after encodes ∙ ap (λ (a : Answer). afterwards a (table_bytes area rows values) before) (ap paper_encoded e),
+        encodes_told area rows values before r after encodes ∙ ap (λ (a : Answer). afterwards a (rowset_bytes area rows values) before) (ap paper_encoded e) ∙ ap (λ (ws : List ℕ). over ws before) (bytes_same area rows values found.0.entries),
       )),
   (λ ok room.
       let size = size_is area rows values ok in

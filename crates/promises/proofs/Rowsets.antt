@@ -25,7 +25,7 @@ use Rattle.promises.specs.Rowsets.{RowsInOrder, RowsByPlace, RowsetRoundTrip, Ro
 use Rattle.promises.proofs.ContentRound.{reads_passes, reads_rows}
 use Rattle.promises.proofs.ContentLaws.{rows_at_place, total_read, values_before, same_words}
 use Rattle.promises.proofs.TableContent.{tables_filled}
-use Rattle.promises.proofs.TablesWritable.{content_writable}
+use Rattle.promises.proofs.TableBytes.{content_writable}
 use Rattle.promises.proofs.RowsetWriter.{lets, from_front, rowset_writer_accepts}
 use Rattle.promises.proofs.RowsetReader.{acceptable, rowset_reader_accepts}
 use Rattle.promises.proofs.PlainWritten.{written_plain}

@@ -20,7 +20,7 @@ use Rattle.packet.specs.Layout.{count}
 use Rattle.packet.specs.Entries.{entry_words, entries}
 use Rattle.packet_read.proofs.EntryLaws.{length_entries}
 use Rattle.packet_write.specs.Statement.{bytes_for}
-use Rattle.wire.specs.Content.{rows_in, bytes_of_rows}
+use Rattle.wire.specs.Layout.{rowset_bytes}
 use Rattle.wire.proofs.PaperLaws.{paper_keeps}
 use Rattle.wire_read.proofs.DecodeLaws.{decodes_told}
 use Rattle.wire_read.specs.declared.rowset.Decoded.TheVariants as decoded
@@ -55,7 +55,7 @@ rowset_tables_keep s rows values rows' values' refusal told =
 
 -- A rowset that is not written leaves the output.
 pub rowset_output_keeps : RowsetOutputKeeps
-rowset_output_keeps area rows values out refusal after told = encodes_told area rows values out (encoded.Refused refusal) after told ∙ paper_keeps refusal (bytes_of_rows (rows_in area rows values)) out
+rowset_output_keeps area rows values out refusal after told = encodes_told area rows values out (encoded.Refused refusal) after told ∙ paper_keeps refusal (rowset_bytes area rows values) out
 
 -- A text that has not the room leaves the buffer.
 pub text_keeps : TextKeeps

@@ -9,8 +9,7 @@ use Rattle.packet.specs.declared.Mode.TheVariants.{Archive}
 use Rattle.packet.specs.Entries.{null_length, entries}
 use Rattle.packet.specs.Wire.{null, bytes, packet_bytes}
 use Rattle.packet_read.specs.Reading.{limited, reading as readingPacket}
-use Rattle.wire.specs.Layout.{null_mark, row_words, value_words}
-use Rattle.wire.specs.Content.{rows_in, bytes_of_rows}
+use Rattle.wire.specs.Layout.{null_mark, row_words, value_words, rowset_bytes}
 use Rattle.wire_read.specs.Reading.{reading as readingRowset}
 
 -- a Message, flags 1, the id 00 01 .. 0f, parts null, "hello" and empty
@@ -64,7 +63,7 @@ RustBytes =
     × (readingPacket packet (limited Archive 85 3 lent)
     ≡ accepted 85 (0 ∷ 1 ∷ 0x0302_0100 ∷ 0x0706_0504 ∷ 0x0b0a_0908 ∷ 0x0f0e_0d0c ∷ 3 ∷ []))
     × (entries packet ≡ 0 ∷ null_length ∷ 0 ∷ 80 ∷ 5 ∷ 0xee4dae65093ed566 ∷ 85 ∷ 0 ∷ 0 ∷ [])
-    × (bytes_of_rows (rows_in area rows (values 0 5)) ≡ rowset)
+    × (rowset_bytes area rows (values 0 5) ≡ rowset)
     × (readingRowset rowset 4 30 ≡ accepted 0 (4 ∷ 6 ∷ []))
     × (row_words rowset 4 8 ≡ rows)
     × (value_words rowset 4 8 ≡ values 40 120)

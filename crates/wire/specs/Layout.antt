@@ -1,7 +1,8 @@
--- A rowset on the wire, after document 01, "Rowsets" and "Lent tables": what stands where in the bytes that are read.
--- Assumes nothing.
-use Rattle.std.specs.Prelude.{ℕ, zero, suc, ◌+◌, ◌-◌, ◌%◌, Bool, ◌&&◌, ◌||◌, List, [], ◌∷◌, ◌++◌, get_or}
-use Rattle.words.specs.Word.{word}
+-- A rowset on the wire, after document 01, "Rowsets" and "Lent tables". First what stands where in the read bytes, then
+-- the bytes themselves as one function of the lent tables' entries, which the writer produces. Assumes nothing.
+use Rattle.std.specs.Prelude.{ℕ, zero, suc, ◌+◌, ◌-◌, ◌*◌, ◌%◌, Bool, ◌&&◌, ◌||◌, List, [], ◌∷◌, ◌++◌, length, get_or, replicate}
+use Rattle.words.specs.Word.{word, bytes_of}
+use Rattle.words.specs.Buffer.{stretch}
 use Rattle.words.specs.Decide.{pick, ◌<?◌, ◌=?◌}
 
 -- the count of a null row
@@ -158,3 +159,40 @@ row_words s (suc n) at = count_at s at ∷ row_words s n (next_row s at)
 unfoldable pub value_words : List ℕ → ℕ → ℕ → List ℕ
 value_words s zero at = []
 value_words s (suc n) at = entries s (values_in (count_at s at)) (at + 8) ++ value_words s n (next_row s at)
+
+-- What is written: the bytes of entries in lent tables, a blob being a stretch of a byte area
+
+-- what follows a value's header: a blob's bytes and zeros, a scalar's word, or nothing
+unfoldable pub payload_bytes : List ℕ → ℕ → ℕ → ℕ → List ℕ
+payload_bytes area type bits n =
+    pick (blob type) (stretch area bits n ++ replicate (padding n) 0)
+    (pick (scalar type) (bytes_of 8 bits) [])
+
+-- id (2), type (1), aggregate (1), length (4), then the payload
+unfoldable pub value_bytes : List ℕ → ℕ → ℕ → ℕ → ℕ → ℕ → List ℕ
+value_bytes area id type aggregate bits n =
+    bytes_of 2 id ++ (bytes_of 1 type ++ (bytes_of 1 aggregate ++ (bytes_of 4 n ++ payload_bytes area type bits n)))
+
+-- the value whose entry begins at the word k of the table
+abbrev pub entry_bytes : List ℕ → List ℕ → ℕ → List ℕ
+entry_bytes area values k =
+    value_bytes area (get_or values k 0) (get_or values (k + 1) 0) (get_or values (k + 2) 0) (get_or values (k + 3) 0)
+    (get_or values (k + 4) 0)
+
+-- n values from the word k of the table on
+unfoldable pub values_bytes : List ℕ → List ℕ → ℕ → ℕ → List ℕ
+values_bytes area values zero k = []
+values_bytes area values (suc n) k = entry_bytes area values k ++ values_bytes area values n (k + entry_words)
+
+-- a row's word, and its values, whose entries begin at the word k
+unfoldable pub row_bytes : List ℕ → List ℕ → ℕ → ℕ → List ℕ
+row_bytes area values count k = bytes_of 8 count ++ values_bytes area values (values_in count) k
+
+unfoldable pub rows_bytes : List ℕ → List ℕ → List ℕ → ℕ → List ℕ
+rows_bytes area [] values k = []
+rows_bytes area (count ∷ rows) values k =
+    row_bytes area values count k ++ rows_bytes area rows values (k + entry_words * values_in count)
+
+-- the row count, then the rows
+unfoldable pub rowset_bytes : List ℕ → List ℕ → List ℕ → List ℕ
+rowset_bytes area rows values = bytes_of 8 (length rows) ++ rows_bytes area rows values 0

@@ -4,8 +4,7 @@ use mathlib.Core.List.{List, [], ◌∷◌}
 use Prim.Native.Nat.{ℕ}
 use Rattle.words.specs.Answer.{accepted, refuse}
 use Rattle.words.specs.Word.{bytes_of}
-use Rattle.wire.specs.Layout.{null_mark, payload}
-use Rattle.wire.specs.Content.{rows_in, rows_from, cells_in, cells_bytes, rows_bytes, bytes_of_rows}
+use Rattle.wire.specs.Layout.{null_mark, payload, payload_bytes, value_bytes, values_bytes, row_bytes, rows_bytes, rowset_bytes}
 use Rattle.wire_check.specs.Writing.{total, bad, first_bad, values_size, rows_size, rowset_size, value_order, values_limits, count_order, rows_limits, check_lines, writing}
 use Rattle.words.specs.Decide.{first_from}
 
@@ -40,8 +39,8 @@ mixed_written : writing (1 ∷ 2 ∷ 3 ∷ 4 ∷ []) mixed string 48 ≡ accepte
 unfolding writing check_lines total first_bad first_from bad rows_limits count_order values_limits value_order rowset_size rows_size values_size payload
 mixed_written = refl
 
-mixed_bytes : bytes_of_rows (rows_in (1 ∷ 2 ∷ 3 ∷ 4 ∷ []) mixed string)
+mixed_bytes : rowset_bytes (1 ∷ 2 ∷ 3 ∷ 4 ∷ []) mixed string
     ≡ 3 ∷ 0 ∷ 0 ∷ 0 ∷ 0 ∷ 0 ∷ 0 ∷ 0 ∷ 255 ∷ 255 ∷ 255 ∷ 255 ∷ 255 ∷ 255 ∷ 255 ∷ 255 ∷ 0 ∷ 0 ∷ 0 ∷ 0 ∷ 0 ∷ 0 ∷ 0 ∷ 0
     ∷ 1 ∷ 0 ∷ 0 ∷ 0 ∷ 0 ∷ 0 ∷ 0 ∷ 0 ∷ 9 ∷ 0 ∷ 16 ∷ 1 ∷ 3 ∷ 0 ∷ 0 ∷ 0 ∷ 2 ∷ 3 ∷ 4 ∷ 0 ∷ 0 ∷ 0 ∷ 0 ∷ 0 ∷ []
-unfolding bytes_of_rows rows_bytes cells_bytes rows_from cells_in bytes_of
+unfolding rowset_bytes rows_bytes row_bytes values_bytes value_bytes payload_bytes bytes_of
 mixed_bytes = refl

@@ -12,9 +12,9 @@ use Rattle.words.specs.Word.{bytes_of}
 use Rattle.words.specs.Buffer.{fitted, stretch}
 use Rattle.words.proofs.WordLaws.{length_bytes_of, bytes_of_join, bytes_of_mod}
 use Rattle.words.proofs.BufferLaws.{fitted_fits}
-use Rattle.wire.specs.Layout.{entry_words, padding, values_in}
+use Rattle.wire.specs.Layout.{entry_words, padding, values_in, payload_bytes, value_bytes, entry_bytes, values_bytes, row_bytes, rows_bytes, rowset_bytes}
 use Rattle.wire_check.specs.Writing.{total, bad}
-use Rattle.wire_write.specs.Stages.{Puts, header_bytes, blob_bytes, payload_bytes, value_bytes, entry_bytes, values_bytes, row_bytes, rows_bytes, rowset_bytes}
+use Rattle.wire_write.specs.Stages.{Puts, header_bytes, blob_bytes}
 use Rattle.wire_check.proofs.TableLaws.{total_more}
 use Rattle.wire_write.proofs.FillingLaws.{Filling, begins, opens, ends, within, mid_room, step, closes, word_opens}
 use Rattle.wire_write.proofs.LengthLaws.{good_blob, good_stretch, bytes_none, bytes_scalar, bytes_blob}

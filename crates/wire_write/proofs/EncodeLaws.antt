@@ -6,17 +6,15 @@ use native.Mathlib.Omega.{arith}
 use lib.ListN.{length}
 use borrow.Author.Tests.{lt-ltb, le-ltb}
 use Rattle.words.specs.Answer.{Answer, afterwards}
-use Rattle.words.specs.Buffer.{over}
 use Rattle.words.specs.declared.outcome.Room.TheVariants.{Output}
-use Rattle.wire.specs.Layout.{entry_words}
-use Rattle.wire.specs.Content.{rows_in, bytes_of_rows}
+use Rattle.wire.specs.Layout.{entry_words, rowset_bytes}
 use Rattle.wire.specs.declared.error.WireError.{WireError}
 use Rattle.wire.specs.declared.error.WireError.TheVariants.{NoRoom}
 use Rattle.wire.proofs.PaperLaws.{paper_keeps}
 use Rattle.wire_check.specs.Writing.{total, rowset_size, writing}
 use Rattle.wire_check.specs.Stages.{Good, Fits}
 use Rattle.wire_write.specs.Statement.{Encodes}
-use Rattle.wire_write.specs.Stages.{Puts, rowset_bytes}
+use Rattle.wire_write.specs.Stages.{Puts}
 use Rattle.wire_check.specs.declared.size.Measured.{Measured}
 use Rattle.wire_check.specs.declared.size.Measured.TheVariants.{Size, Refused}
 use Rattle.wire_check.proofs.LinesLaws.{writing_walks}
@@ -24,23 +22,22 @@ use Rattle.wire_write.specs.Paper.{paper_encoded}
 use Rattle.wire_write.specs.declared.write.Encoded.{Encoded}
 use Rattle.wire_write.specs.declared.write.Encoded.TheVariants as encoded
 use Rattle.wire_write.proofs.LengthLaws.{rowset_length}
-use Rattle.wire_write.proofs.ContentLaws.{rowset_bytes_lem}
 
 -- an answer and what it leaves, told by the result
 encodes : (area rows values before : List ℕ) (r : Encoded) (after : List ℕ) → paper_encoded r ≡ writing area rows values (length before)
-    → after ≡ afterwards (paper_encoded r) (bytes_of_rows (rows_in area rows values)) before → Encodes area rows values before r after
-encodes area rows values before r after means holds = (means, holds ∙ ap (λ (a : Answer). afterwards a (bytes_of_rows (rows_in area rows values)) before) means)
+    → after ≡ afterwards (paper_encoded r) (rowset_bytes area rows values) before → Encodes area rows values before r after
+encodes area rows values before r after means holds = (means, holds ∙ ap (λ (a : Answer). afterwards a (rowset_bytes area rows values) before) means)
 
 -- and back
 pub encodes_told : (area rows values before : List ℕ) (r : Encoded) (after : List ℕ) → Encodes area rows values before r after
-    → after ≡ afterwards (paper_encoded r) (bytes_of_rows (rows_in area rows values)) before
-encodes_told area rows values before r after told = told.1 ∙ ap (λ (a : Answer). afterwards a (bytes_of_rows (rows_in area rows values)) before) (sym told.0)
+    → after ≡ afterwards (paper_encoded r) (rowset_bytes area rows values) before
+encodes_told area rows values before r after told = told.1 ∙ ap (λ (a : Answer). afterwards a (rowset_bytes area rows values) before) (sym told.0)
 
 module _ (area rows values before : List ℕ) (r : Measured) (measured : Fits area rows values r) where
   pub encode_refused : (refusal : WireError) → r ≡ Refused refusal → Encodes area rows values before (encoded.Refused refusal) before
   encode_refused refusal e =
       let failed : Fits area rows values (Refused refusal) = rw e at measured in
-      encodes area rows values before (encoded.Refused refusal) before (sym (writing_walks area rows values (length before) ∙ failed _)) (sym (paper_keeps refusal (bytes_of_rows (rows_in area rows values)) before))
+      encodes area rows values before (encoded.Refused refusal) before (sym (writing_walks area rows values (length before) ∙ failed _)) (sym (paper_keeps refusal (rowset_bytes area rows values) before))
 
   module _ (size : ℕ) (e : r ≡ Size size) where
     passed : Fits area rows values (Size size)
@@ -66,5 +63,4 @@ module _ (area rows values before : List ℕ) (r : Measured) (measured : Fits ar
       encode_written after n puts =
           let is : size ≡ rowset_size rows values = passed.1.0 in
           encodes area rows values before (encoded.Written size) after
-          (sym (writing_walks area rows values (length before) ∙ passed.1.2 _ ∙ rw (← is, le-ltb (length before) size enough)))
-          (puts.1 ∙ ap (λ (ws : List ℕ). over ws before) (rowset_bytes_lem area rows values passed.0))
+          (sym (writing_walks area rows values (length before) ∙ passed.1.2 _ ∙ rw (← is, le-ltb (length before) size enough))) puts.1

@@ -11,11 +11,11 @@ use borrow.Author.Tests.{ltb-true, ltb-false, not-false, lt-ltb, le-ltb, ne_eqb}
 use Rattle.words.specs.Word.{bytes_of}
 use Rattle.words.specs.Buffer.{stretch}
 use Rattle.words.proofs.WordLaws.{length_bytes_of}
-use Rattle.wire.specs.Layout.{entry_words, blob, known, padding, padded, payload, values_in}
+use Rattle.wire.specs.Layout.{entry_words, blob, known, padding, padded, payload, values_in, payload_bytes, value_bytes, entry_bytes, values_bytes, row_bytes, rows_bytes, rowset_bytes}
 use Rattle.wire.proofs.TypeLaws.{scalar_yes, scalar_low, blob_low, payload_none, payload_scalar}
 use Rattle.wire_check.specs.Writing.{total, bad, size_of, values_size, rows_size, rowset_size}
 use Rattle.wire_check.specs.Stages.{Good, Sound}
-use Rattle.wire_write.specs.Stages.{blob_bytes, payload_bytes, value_bytes, entry_bytes, values_bytes, row_bytes, rows_bytes, rowset_bytes}
+use Rattle.wire_write.specs.Stages.{blob_bytes}
 use Rattle.wire_check.proofs.TableLaws.{by_test, none_wrong}
 
 -- What the checks leave of a value: its type is known, and a blob lies within the area

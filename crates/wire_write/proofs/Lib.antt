@@ -2,6 +2,5 @@
 pub mod FillingLaws
 pub mod LengthLaws
 pub mod BytesLaws
-pub mod ContentLaws
 pub mod EncodeLaws
 pub mod Unique

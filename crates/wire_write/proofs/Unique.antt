@@ -8,7 +8,7 @@ use Rattle.words.specs.Answer.{Answer}
 use Rattle.words.specs.Paper.{Tells, outcome}
 use Rattle.words.specs.Statement.{OneResult}
 use Rattle.words.proofs.Unique.{equal_to_one, means_one, holds_one}
-use Rattle.wire.specs.Content.{rows_in, bytes_of_rows}
+use Rattle.wire.specs.Layout.{rowset_bytes}
 use Rattle.wire.proofs.PaperLaws.{refusal_back, refusal_back_lem}
 use Rattle.wire_check.specs.Writing.{writing}
 use Rattle.wire_write.specs.Paper.{paper_encoded}
@@ -31,7 +31,7 @@ pub encode_rowset_unique : (area rows values before : List ℕ) → OneResult (�
 encode_rowset_unique area rows values before x x' p q =
     let answer : Answer = writing area rows values (length before) in
     let first : x.0 ≡ x'.0 = means_one paper_encoded encoded_of encoded_back_lem answer x.0 x'.0 p.0 q.0 in
-    let second : x.1 ≡ x'.1 = holds_one answer (bytes_of_rows (rows_in area rows values)) before x.1 x'.1 p.1 q.1 in
+    let second : x.1 ≡ x'.1 = holds_one answer (rowset_bytes area rows values) before x.1 x'.1 p.1 q.1 in
     λ i. (first i, second i)
 
 pub outcome_unique : (answer : Encoded) → OneResult (Tells (paper_encoded answer))

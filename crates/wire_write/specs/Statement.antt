@@ -2,7 +2,7 @@
 -- nothing.
 use Rattle.std.specs.Prelude.{ℕ, List, length}
 use Rattle.words.specs.Statement.{Means, Holds}
-use Rattle.wire.specs.Content.{rows_in, bytes_of_rows}
+use Rattle.wire.specs.Layout.{rowset_bytes}
 use Rattle.wire_check.specs.Writing.{writing}
 use Rattle.wire_write.specs.Paper.{paper_encoded}
 use Rattle.wire_write.specs.declared.write.Encoded.{Encoded}
@@ -11,4 +11,4 @@ use Rattle.wire_write.specs.declared.write.Encoded.{Encoded}
 abbrev pub Encodes : List ℕ → List ℕ → List ℕ → List ℕ → Encoded → List ℕ → Type 0
 Encodes area rows values before r after =
     let answer = writing area rows values (length before) in
-    Means paper_encoded answer r × Holds answer (bytes_of_rows (rows_in area rows values)) before after
+    Means paper_encoded answer r × Holds answer (rowset_bytes area rows values) before after

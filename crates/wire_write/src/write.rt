@@ -4,12 +4,11 @@ ghost use lib.ListN.{length};
 ghost use Rattle.words.specs.Paper.{Tells};
 ghost use Rattle.words.specs.Word.{bytes_of};
 ghost use Rattle.wire_write.specs.Paper.{paper_encoded};
-ghost use Rattle.wire.specs.Layout.{entry_words, values_in};
+ghost use Rattle.wire.specs.Layout.{entry_words, values_in, value_bytes, entry_bytes, values_bytes, row_bytes, rows_bytes};
 ghost use Rattle.wire_check.specs.Writing.{total, bad, bad_entry};
 ghost use Rattle.wire_check.specs.Stages.{Good};
 ghost use Rattle.wire_write.specs.Statement.{Encodes};
 ghost use Rattle.wire_write.specs.Stages.{Puts, header_bytes, blob_bytes};
-ghost use Rattle.wire_write.specs.Stages.{value_bytes, entry_bytes, values_bytes, row_bytes, rows_bytes};
 
 use wire::error::WireError;
 use wire::kind::{Kind, kind_of};

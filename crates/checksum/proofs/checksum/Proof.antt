@@ -4,43 +4,43 @@ use borrow.Author.Rules.{rules}
 use Rattle.checksum.proofs.checksum.Statement.{statement}
 use Rattle.checksum.proofs.checksum.Tie as tie
 
-fold-held-requires : tie.Need-fold-held-requires
-fold-held-requires c κs = search rules
+fold_held-requires : tie.Need-fold_held-requires
+fold_held-requires c κs = search rules
 
-swap-bytes-requires : tie.Need-swap-bytes-requires
-swap-bytes-requires c κs = search rules
+swap_bytes-requires : tie.Need-swap_bytes-requires
+swap_bytes-requires c κs = search rules
 
-returns : tie.Need-returns
+returns : tie.Need-returns-then-bytes-lt-LANES_FROM
 returns c = search (rules, swapped_back)
 
-fold-lanes-requires : tie.Need-fold-lanes-requires
-fold-lanes-requires c κs = search rules
+fold_lanes-requires : tie.Need-fold_lanes-requires
+fold_lanes-requires c κs = search rules
 
-swap-bytes-requires-2 : tie.Need-swap-bytes-requires-2
-swap-bytes-requires-2 c κs = search rules
+swap_bytes-requires-2 : tie.Need-swap_bytes-requires-then-bytes-lt-LONG_FROM
+swap_bytes-requires-2 c κs = search rules
 
-returns-2 : tie.Need-returns-2
+returns-2 : tie.Need-returns-then-bytes-lt-LONG_FROM
 returns-2 c = search (rules, swapped_back)
 
-fold-long-requires : tie.Need-fold-long-requires
-fold-long-requires c κs = search rules
+fold_long-requires : tie.Need-fold_long-requires
+fold_long-requires c κs = search rules
 
-swap-bytes-requires-3 : tie.Need-swap-bytes-requires-3
-swap-bytes-requires-3 c κs = search rules
+swap_bytes-requires-3 : tie.Need-swap_bytes-requires-2
+swap_bytes-requires-3 c κs = search rules
 
-returns-3 : tie.Need-returns-3
+returns-3 : tie.Need-returns
 returns-3 c = search (rules, swapped_back)
 
-pub checksum-spec : {M : Type 1} → statement M
-checksum-spec =
+pub checksum_spec : {M : Type 1} → statement M
+checksum_spec =
     tie.close
     (tie.spec
-    fold-held-requires
-    swap-bytes-requires
+    fold_held-requires
+    swap_bytes-requires
     returns
-    fold-lanes-requires
-    swap-bytes-requires-2
+    fold_lanes-requires
+    swap_bytes-requires-2
     returns-2
-    fold-long-requires
-    swap-bytes-requires-3
+    fold_long-requires
+    swap_bytes-requires-3
     returns-3)

@@ -4,45 +4,45 @@ use borrow.Author.Rules.{rules}
 use Rattle.crc64_long.proofs.copy_long.Statement.{statement}
 use Rattle.crc64_long.proofs.copy_long.Tie as tie
 
-copy-held-requires : tie.Need-copy-held-requires
-copy-held-requires c κs = search rules
+copy_held-requires : tie.Need-copy_held-requires
+copy_held-requires c κs = search rules
 
-same_length : tie.Need-same-length
+same_length : tie.Need-shape_of-out-then-bytes-lt-LONG_FROM
 same_length c = search rules
 
-returns : tie.Need-returns
+returns : tie.Need-returns-then-bytes-lt-LONG_FROM
 returns c = search rules
 
-copy-held-requires-2 : tie.Need-copy-held-requires-2
-copy-held-requires-2 c κs = search rules
+copy_held-requires-2 : tie.Need-copy_held-requires-then-out-bytes
+copy_held-requires-2 c κs = search rules
 
-same-length-2 : tie.Need-same-length-2
-same-length-2 c = search rules
+same_length-2 : tie.Need-shape_of-out-then-out-bytes
+same_length-2 c = search rules
 
-returns-2 : tie.Need-returns-2
+returns-2 : tie.Need-returns-then-out-bytes
 returns-2 c = search rules
 
 walk-requires : tie.Need-walk-requires
 walk-requires c κs = search rules
 
-same-length-3 : tie.Need-same-length-3
-same-length-3 c = search rules
+same_length-3 : tie.Need-shape_of-out
+same_length-3 c = search rules
 
-returns-3 : tie.Need-returns-3
+returns-3 : tie.Need-returns
 returns-3 c =
-    let done = c.before.before.walk.ensures in
+    let done = c.walk.ensures in
     record { folded = done.0; copied = done.1 refl }
 
-pub copy-long-spec : {M : Type 1} → statement M
-copy-long-spec =
+pub copy_long_spec : {M : Type 1} → statement M
+copy_long_spec =
     tie.close
     (tie.spec
-    copy-held-requires
+    copy_held-requires
     same_length
     returns
-    copy-held-requires-2
-    same-length-2
+    copy_held-requires-2
+    same_length-2
     returns-2
     walk-requires
-    same-length-3
+    same_length-3
     returns-3)

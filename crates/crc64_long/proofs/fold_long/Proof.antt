@@ -7,21 +7,21 @@ use borrow.Author.Rules.{rules}
 use Rattle.crc64_long.proofs.fold_long.Statement.{statement}
 use Rattle.crc64_long.proofs.fold_long.Tie as tie
 
-fold-held-requires : tie.Need-fold-held-requires
-fold-held-requires c κs = search rules
+fold_held-requires : tie.Need-fold_held-requires
+fold_held-requires c κs = search rules
 
-returns : tie.Need-returns
+returns : tie.Need-returns-then-bytes-lt-LONG_FROM
 returns c = search rules
 
-slice-aggregate-walk : tie.Need-slice-aggregate-walk
-slice-aggregate-walk c = search rules
+slice_aggregate-walk : tie.Need-slice_bounds-walk-end
+slice_aggregate-walk c = search rules
 
 walk-requires : tie.Need-walk-requires
 walk-requires c κs = (omega arith, λ e. absurd (true≢false (sym e)))
 
-returns-2 : tie.Need-returns-2
+returns-2 : tie.Need-returns
 returns-2 c = search rules
 
-pub fold-long-spec : {M : Type 1} → statement M
-fold-long-spec =
-    tie.close (tie.spec fold-held-requires returns slice-aggregate-walk walk-requires returns-2)
+pub fold_long_spec : {M : Type 1} → statement M
+fold_long_spec =
+    tie.close (tie.spec fold_held-requires returns slice_aggregate-walk walk-requires returns-2)

@@ -20,100 +20,100 @@ use Rattle.crc64_long.proofs.leave_copied.Tie as tie
 same : (i n : ℕ) → i + n - i ≡ n
 same i n = omega arith
 
-abbrev invariant-loop : tie.invariant-loop
+abbrev invariant-loop : tie.invariant-loop-i
 invariant-loop window₀ bytes count out₀ i₀ window out i =
     (i ≤ count) × (length window ≡ window_size) × (fold 0 (owed places (take span window) (drop i bytes)) ≡ fold 0 (owed places (take span window₀) bytes))
     × Filling bytes (drop i bytes) out₀ out i
 
-abbrev decreases-loop : tie.decreases-loop
+abbrev decreases-loop : tie.decreases-loop-i
 decreases-loop window₀ bytes count out₀ i₀ window out i = count - i
 
-loop-holds : tie.Need-loop-init invariant-loop decreases-loop
-loop-holds c = (search rules, c.before.before.requires.0, refl, begins _ _ c.before.before.requires.2)
+loop-holds : tie.Need-loop-i-init invariant-loop decreases-loop
+loop-holds c = (search rules, c.requires.0, refl, begins _ _ c.requires.2)
 
-sub-block : tie.Need-overflow-sub-block invariant-loop decreases-loop
+sub-block : tie.Need-overflow_sub-count invariant-loop decreases-loop
 sub-block c = search rules
 
-block-requires : tie.Need-block-requires invariant-loop decreases-loop
+block-requires : tie.Need-block-next-requires invariant-loop decreases-loop
 block-requires c κs = search rules
 
-sub-write-bytes : tie.Need-overflow-sub-write-bytes invariant-loop decreases-loop
-sub-write-bytes c = place c.before.before.loop.invariant.3
+sub-write_bytes : tie.Need-slice_bounds-write_bytes-count invariant-loop decreases-loop
+sub-write_bytes c = place c.loop-i.invariant.3
 
-part-write-bytes-start : tie.Need-slice-bounds-write-bytes-start invariant-loop decreases-loop
-part-write-bytes-start c = place c.before.before.loop.invariant.3
+part-write_bytes-start : tie.Need-slice_bounds-write_bytes-start invariant-loop decreases-loop
+part-write_bytes-start c = place c.loop-i.invariant.3
 
-part-write-bytes-end : tie.Need-slice-bounds-write-bytes-end invariant-loop decreases-loop
-part-write-bytes-end c = search rules
+part-write_bytes-end : tie.Need-slice_bounds-write_bytes-end invariant-loop decreases-loop
+part-write_bytes-end c = search rules
 
-add-write-bytes : tie.Need-overflow-add-write-bytes invariant-loop decreases-loop
-add-write-bytes c = omega (arith, c.before.block.ensures.1, c.before.before.before.before.before.before.requires.1)
+add-write_bytes : tie.Need-overflow_add-i invariant-loop decreases-loop
+add-write_bytes c = omega (arith, c.block-next.ensures.1, c.requires.1)
 
-sub-write-bytes-2 : tie.Need-overflow-sub-write-bytes-2 invariant-loop decreases-loop
-sub-write-bytes-2 c = search rules
+sub-write_bytes-2 : tie.Need-slice_bounds-write_bytes-count-in-loop-i invariant-loop decreases-loop
+sub-write_bytes-2 c = search rules
 
-part-write-bytes-start-2 : tie.Need-slice-bounds-write-bytes-start-2 invariant-loop decreases-loop
-part-write-bytes-start-2 c = search rules
+part-write_bytes-start-2 : tie.Need-slice_bounds-write_bytes-start-in-loop-i invariant-loop decreases-loop
+part-write_bytes-start-2 c = search rules
 
-part-write-bytes-end-2 : tie.Need-slice-bounds-write-bytes-end-2 invariant-loop decreases-loop
-part-write-bytes-end-2 c = omega (arith, c.before.block.ensures.1, c.before.before.before.before.before.before.requires.1)
+part-write_bytes-end-2 : tie.Need-slice_bounds-write_bytes-end-in-loop-i invariant-loop decreases-loop
+part-write_bytes-end-2 c = omega (arith, c.block-next.ensures.1, c.requires.1)
 
-write-bytes-requires : tie.Need-write-bytes-requires invariant-loop decreases-loop
-write-bytes-requires c κs = search rules
+write_bytes-requires : tie.Need-write_bytes-requires invariant-loop decreases-loop
+write_bytes-requires c κs = search rules
 
 leave-requires : tie.Need-leave-requires invariant-loop decreases-loop
 leave-requires c κs =
-    let block = c.before.before.before.before.before.before.before.block in
-    let start = c.before.before.before.before.before.before.before.before.before.before.before.before in
-    let at = c.before.before.before.before.before.before.before.before.before.loop in
+    let block = c.block-next in
+    let start = c in
+    let at = c.loop-i in
     let next = block.ensures in
     let n : ℕ = block.result in
-    (at.invariant.1, next.0, place (bytes_copied start.args.bytes.now at.i n (omega (arith, start.requires.1, next.1)) at.invariant.3 (at.i + n - at.i) (same at.i n) c.before.before.before.before.write_bytes.ensures))
+    (at.invariant.1, next.0, place (bytes_copied start.args.bytes.now at.i n (omega (arith, start.requires.1, next.1)) at.invariant.3 (at.i + n - at.i) (same at.i n) c.write_bytes.ensures))
 
 shift-requires : tie.Need-shift-requires invariant-loop decreases-loop
-shift-requires c κs = (c.before.leave.ensures.0, c.before.before.before.before.before.before.before.before.before.block.ensures.0)
+shift-requires c κs = (c.leave.ensures.0, c.block-next.ensures.0)
 
-add-i : tie.Need-overflow-add-i invariant-loop decreases-loop
-add-i c = omega (arith, c.before.before.before.before.before.before.before.before.before.before.block.ensures.1)
+add-i : tie.Need-overflow_add-i-in-loop-i invariant-loop decreases-loop
+add-i c = omega (arith, c.block-next.ensures.1)
 
-loop-less : tie.Need-loop-smaller invariant-loop decreases-loop
+loop-less : tie.Need-loop-i-smaller invariant-loop decreases-loop
 loop-less c =
-    let block = c.before.before.before.before.before.before.before.before.before.before.block in
-    let at = c.before.before.before.before.before.before.before.before.before.before.before.before.loop in
+    let block = c.block-next in
+    let at = c.loop-i in
     omega (arith, block.ensures.1, block.ensures.2 (omega arith))
 
-loop-again : tie.Need-loop-preserved invariant-loop decreases-loop
+loop-again : tie.Need-loop-i-preserved invariant-loop decreases-loop
 loop-again c =
-    let block = c.before.before.before.before.before.before.before.before.before.before.block in
-    let start = c.before.before.before.before.before.before.before.before.before.before.before.before.before.before.before in
-    let at = c.before.before.before.before.before.before.before.before.before.before.before.before.loop in
+    let block = c.block-next in
+    let start = c in
+    let at = c.loop-i in
     let next = block.ensures in
     let n : ℕ = block.result in
     let s : List ℕ = start.args.bytes.now in
-    let copied = bytes_copied s at.i n (omega (arith, start.requires.1, next.1)) at.invariant.3 (at.i + n - at.i) (same at.i n) c.before.before.before.before.before.before.before.write_bytes.ensures in (
+    let copied = bytes_copied s at.i n (omega (arith, start.requires.1, next.1)) at.invariant.3 (at.i + n - at.i) (same at.i n) c.write_bytes.ensures in (
       omega (arith, next.1),
       c.shift.ensures.0,
       block_left n at.i s at.window _ at.invariant.1 (omega (arith, start.requires.1, next.1))
-          (c.before.before.leave.ensures.1 ∙ filled_same n n _ _ (drop at.i s) (omega arith) (copy_same s at.i n copied)) c.shift.ensures.1
+          (c.leave.ensures.1 ∙ filled_same n n _ _ (drop at.i s) (omega arith) (copy_same s at.i n copied)) c.shift.ensures.1
           ∙ at.invariant.2,
       copied,
     )
 
-same_length : tie.Need-same-length invariant-loop decreases-loop
-same_length c = length_now c.before.loop.invariant.3
+same_length : tie.Need-shape_of-out invariant-loop decreases-loop
+same_length c = length_now c.loop-i.invariant.3
 
 returns : tie.Need-returns invariant-loop decreases-loop
 returns c =
-    let start = c.before.before.before.before in
-    let at = c.before.loop in
+    let start = c in
+    let at = c.loop-i in
     let all : at.i ≡ start.args.count = omega arith in (
       at.invariant.1,
       ap (λ (n : ℕ). fold 0 (owed places (take span at.window) (drop n start.args.bytes.now))) (sym all) ∙ at.invariant.2,
       all_copied start.args.bytes.now at.i at.invariant.3 ∙ ap (λ (n : ℕ). over (take n start.args.bytes.now) start.args.out.now) all,
     )
 
-pub leave-copied-spec : {M : Type 1} → statement M
-leave-copied-spec =
+pub leave_copied_spec : {M : Type 1} → statement M
+leave_copied_spec =
     tie.close
     (tie.spec
     invariant-loop
@@ -121,14 +121,14 @@ leave-copied-spec =
     loop-holds
     sub-block
     block-requires
-    sub-write-bytes
-    part-write-bytes-start
-    part-write-bytes-end
-    add-write-bytes
-    sub-write-bytes-2
-    part-write-bytes-start-2
-    part-write-bytes-end-2
-    write-bytes-requires
+    sub-write_bytes
+    part-write_bytes-start
+    part-write_bytes-end
+    add-write_bytes
+    sub-write_bytes-2
+    part-write_bytes-start-2
+    part-write_bytes-end-2
+    write_bytes-requires
     leave-requires
     shift-requires
     add-i

@@ -5,23 +5,23 @@ use borrow.Author.Rules.{rules}
 use Rattle.crc64_long.proofs.leave_first.Statement.{statement}
 use Rattle.crc64_long.proofs.leave_first.Tie as tie
 
-leave-copied-requires : tie.Need-leave-copied-requires
-leave-copied-requires c κs =
-    let start = c.before.before.before.before.before in
-    (start.requires.0, start.requires.1, start.requires.2 c.before.before.if1.true)
+leave_copied-requires : tie.Need-leave_copied-requires
+leave_copied-requires c κs =
+    let start = c in
+    (start.requires.0, start.requires.1, start.requires.2 c.if-copies.true)
 
-same_length : tie.Need-same-length
+same_length : tie.Need-shape_of-out-then-copies
 same_length c = search rules
 
-returns : tie.Need-returns
+returns : tie.Need-returns-then-copies
 returns c = search rules
 
-leave-all-requires : tie.Need-leave-all-requires
-leave-all-requires c κs = search rules
+leave_all-requires : tie.Need-leave_all-requires
+leave_all-requires c κs = search rules
 
-returns-2 : tie.Need-returns-2
-returns-2 c = (c.leave-all.ensures.0, c.leave-all.ensures.1, refl, λ e. absurd (true≢false (sym e ∙ c.before.before.if1.false)))
+returns-2 : tie.Need-returns
+returns-2 c = (c.leave_all.ensures.0, c.leave_all.ensures.1, refl, λ e. absurd (true≢false (sym e ∙ c.if-copies.false)))
 
-pub leave-first-spec : {M : Type 1} → statement M
-leave-first-spec =
-    tie.close (tie.spec leave-copied-requires same_length returns leave-all-requires returns-2)
+pub leave_first_spec : {M : Type 1} → statement M
+leave_first_spec =
+    tie.close (tie.spec leave_copied-requires same_length returns leave_all-requires returns-2)

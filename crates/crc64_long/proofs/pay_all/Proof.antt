@@ -28,20 +28,20 @@ pay-requires-7 c κs = search rules
 
 returns : tie.Need-returns
 returns c =
-    let start = c.before.before.before.before.before.before.before.before.before.before.before.before.before.before in (
-      c.pay7.ensures.0,
+    let start = c in (
+      c.pay-7.ensures.0,
       all_owed (take 1856 start.args.window.now) start.args.tail.now
-          c.before.before.before.before.before.before.before.before.before.before.before.before.pay.ensures.1
-          c.before.before.before.before.before.before.before.before.before.before.pay2.ensures.1
-          c.before.before.before.before.before.before.before.before.pay3.ensures.1
-          c.before.before.before.before.before.before.pay4.ensures.1
-          c.before.before.before.before.pay5.ensures.1
-          c.before.before.pay6.ensures.1
-          c.pay7.ensures.1,
+          c.pay.ensures.1
+          c.pay-2.ensures.1
+          c.pay-3.ensures.1
+          c.pay-4.ensures.1
+          c.pay-5.ensures.1
+          c.pay-6.ensures.1
+          c.pay-7.ensures.1,
     )
 
-pub pay-all-spec : {M : Type 1} → statement M
-pay-all-spec =
+pub pay_all_spec : {M : Type 1} → statement M
+pay_all_spec =
     tie.close
     (tie.spec
     pay-requires

@@ -9,39 +9,39 @@ use borrow.Author.Rules.{rules}
 use Rattle.crc64_long.proofs.put_last.Statement.{statement}
 use Rattle.crc64_long.proofs.put_last.Tie as tie
 
-sub-write-bytes : tie.Need-overflow-sub-write-bytes
-sub-write-bytes c = c.before.before.requires.1 c.if1.true
+sub-write_bytes : tie.Need-slice_bounds-write_bytes-count
+sub-write_bytes c = c.requires.1 c.if-copies.true
 
-part-write-bytes-start : tie.Need-slice-bounds-write-bytes-start
-part-write-bytes-start c = c.before.before.requires.1 c.if1.true
+part-write_bytes-start : tie.Need-slice_bounds-write_bytes-start
+part-write_bytes-start c = c.requires.1 c.if-copies.true
 
-part-write-bytes-end : tie.Need-slice-bounds-write-bytes-end
-part-write-bytes-end c = search rules
+part-write_bytes-end : tie.Need-slice_bounds-write_bytes-end
+part-write_bytes-end c = search rules
 
-write-bytes-requires : tie.Need-write-bytes-requires
-write-bytes-requires c κs = search rules
+write_bytes-requires : tie.Need-write_bytes-requires
+write_bytes-requires c κs = search rules
 
-same_length : tie.Need-same-length
+same_length : tie.Need-shape_of-out
 same_length c = search rules
 
-returns : tie.Need-returns
+returns : tie.Need-returns-then-copies
 returns c =
-    let start = c.before.before.before.before.before.before.before in
+    let start = c in
     let at : ℕ = start.args.at in
     let out : List ℕ = start.args.out.now in
-    (search rules, λ e. ap (put_mid at (length out - at) out) c.before.before.write_bytes.ensures)
+    (search rules, λ e. ap (put_mid at (length out - at) out) c.write_bytes.ensures)
 
-returns-2 : tie.Need-returns-2
-returns-2 c = (refl, λ e. absurd (true≢false (sym e ∙ c.if1.false)))
+returns-2 : tie.Need-returns-else-copies
+returns-2 c = (refl, λ e. absurd (true≢false (sym e ∙ c.if-copies.false)))
 
-pub put-last-spec : {M : Type 1} → statement M
-put-last-spec =
+pub put_last_spec : {M : Type 1} → statement M
+put_last_spec =
     tie.close
     (tie.spec
-    sub-write-bytes
-    part-write-bytes-start
-    part-write-bytes-end
-    write-bytes-requires
+    sub-write_bytes
+    part-write_bytes-start
+    part-write_bytes-end
+    write_bytes-requires
     same_length
     returns
     returns-2)

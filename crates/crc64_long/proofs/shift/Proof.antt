@@ -8,53 +8,53 @@ use Rattle.crc64_long.proofs.Kept.{Over, over_none, shift_one, shifted}
 use Rattle.crc64_long.proofs.shift.Statement.{statement}
 use Rattle.crc64_long.proofs.shift.Tie as tie
 
-abbrev invariant-loop : tie.invariant-loop
+abbrev invariant-loop : tie.invariant-loop-k
 invariant-loop window₀ count k₀ window k = (k ≤ 1856) × Over k window (drop count window₀) window₀
 
-abbrev decreases-loop : tie.decreases-loop
+abbrev decreases-loop : tie.decreases-loop-k
 decreases-loop window₀ count k₀ window k = 1856 - k
 
-loop-holds : tie.Need-loop-init invariant-loop decreases-loop
+loop-holds : tie.Need-loop-k-init invariant-loop decreases-loop
 loop-holds c = (search rules, over_none _ _)
 
-add-window : tie.Need-overflow-add-window invariant-loop decreases-loop
+add-window : tie.Need-overflow_add-window invariant-loop decreases-loop
 add-window c = search rules
 
-element-copy-out-window : tie.Need-element-copy-out-window invariant-loop decreases-loop
-element-copy-out-window c = search rules
+element_copy_out-window : tie.Need-bounds-window-count invariant-loop decreases-loop
+element_copy_out-window c = search rules
 
-element-write-window : tie.Need-element-write-window invariant-loop decreases-loop
-element-write-window c = search rules
+element_write-window : tie.Need-bounds-window-k invariant-loop decreases-loop
+element_write-window c = search rules
 
-add-k : tie.Need-overflow-add-k invariant-loop decreases-loop
+add-k : tie.Need-overflow_add-k invariant-loop decreases-loop
 add-k c = search rules
 
-loop-less : tie.Need-loop-smaller invariant-loop decreases-loop
+loop-less : tie.Need-loop-k-smaller invariant-loop decreases-loop
 loop-less c = search rules
 
-loop-again : tie.Need-loop-preserved invariant-loop decreases-loop
+loop-again : tie.Need-loop-k-preserved invariant-loop decreases-loop
 loop-again c =
-    let start = c.before.before.before in
+    let start = c in
     let first = start.args in
-    let at = c.before.before.loop in
+    let at = c.loop-k in
     (search rules, shift_one at.k first.count at.window first.window.now start.requires.0 ((search rules, search rules)) at.invariant.1)
 
 returns : tie.Need-returns invariant-loop decreases-loop
 returns c =
-    let first = c.before.before.args in
-    let at = c.before.loop in
-    (at.invariant.1.long ∙ c.before.before.requires.0, shifted at.window first.window.now at.k first.count (search rules) at.invariant.1)
+    let first = c.args in
+    let at = c.loop-k in
+    (at.invariant.1.long ∙ c.requires.0, shifted at.window first.window.now at.k first.count (search rules) at.invariant.1)
 
-pub shift-spec : {M : Type 1} → statement M
-shift-spec =
+pub shift_spec : {M : Type 1} → statement M
+shift_spec =
     tie.close
     (tie.spec
     invariant-loop
     decreases-loop
     loop-holds
     add-window
-    element-copy-out-window
-    element-write-window
+    element_copy_out-window
+    element_write-window
     add-k
     loop-less
     loop-again

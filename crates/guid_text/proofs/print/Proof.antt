@@ -33,10 +33,10 @@ put_dashed-requires : tie.Need-put_dashed-second-requires
 put_dashed-requires c κs = omega (arith, length_text c.args.id, c.text_size-needed.ensures, c.if-out-needed.false)
 
 sub-put_dashed : tie.Need-slice_bounds-put_dashed-count
-sub-put_dashed c = omega (arith, length_text c.args.id, c.text_size-needed.ensures, c.if-out-needed.false, c.put_dashed-second.ensures.0, c.put_dashed-second.auto.0)
+sub-put_dashed c = omega (arith, length_text c.args.id, c.text_size-needed.ensures, c.if-out-needed.false, c.put_dashed-second.ensures.0, c.put_dashed-second.auto.out)
 
 part-put_dashed-start : tie.Need-slice_bounds-put_dashed-start
-part-put_dashed-start c = omega (arith, length_text c.args.id, c.text_size-needed.ensures, c.if-out-needed.false, c.put_dashed-second.ensures.0, c.put_dashed-second.auto.0)
+part-put_dashed-start c = omega (arith, length_text c.args.id, c.text_size-needed.ensures, c.if-out-needed.false, c.put_dashed-second.ensures.0, c.put_dashed-second.auto.out)
 
 part-put_dashed-end : tie.Need-slice_bounds-put_dashed-end
 part-put_dashed-end c = search rules
@@ -44,22 +44,22 @@ part-put_dashed-end c = search rules
 put_dashed-requires-2 : tie.Need-put_dashed-requires
 put_dashed-requires-2 c κs =
     let put-dashed = c.put_dashed-second in
-    omega (arith, length_text c.args.id, c.text_size-needed.ensures, c.if-out-needed.false, put-dashed.ensures.0, put-dashed.auto.0)
+    omega (arith, length_text c.args.id, c.text_size-needed.ensures, c.if-out-needed.false, put-dashed.ensures.0, put-dashed.auto.out)
 
 add-third : tie.Need-overflow_add-third
 add-third c =
     let put-dashed = c.put_dashed-second in
-    omega (arith, length_text c.args.id, c.text_size-needed.ensures, c.if-out-needed.false, put-dashed.ensures.0, put-dashed.auto.0, c.put_dashed.ensures.0, c.put_dashed.auto.0)
+    omega (arith, length_text c.args.id, c.text_size-needed.ensures, c.if-out-needed.false, put-dashed.ensures.0, put-dashed.auto.out, c.put_dashed.ensures.0, c.put_dashed.auto.out)
 
 sub-put_dashed-2 : tie.Need-slice_bounds-put_dashed-count-2
 sub-put_dashed-2 c =
     let put-dashed = c.put_dashed-second in
-    omega (arith, length_text c.args.id, c.text_size-needed.ensures, c.if-out-needed.false, put-dashed.ensures.0, put-dashed.auto.0, c.put_dashed.ensures.0, c.put_dashed.auto.0)
+    omega (arith, length_text c.args.id, c.text_size-needed.ensures, c.if-out-needed.false, put-dashed.ensures.0, put-dashed.auto.out, c.put_dashed.ensures.0, c.put_dashed.auto.out)
 
 part-put_dashed-start-2 : tie.Need-slice_bounds-put_dashed-start-2
 part-put_dashed-start-2 c =
     let put-dashed = c.put_dashed-second in
-    omega (arith, length_text c.args.id, c.text_size-needed.ensures, c.if-out-needed.false, put-dashed.ensures.0, put-dashed.auto.0, c.put_dashed.ensures.0, c.put_dashed.auto.0)
+    omega (arith, length_text c.args.id, c.text_size-needed.ensures, c.if-out-needed.false, put-dashed.ensures.0, put-dashed.auto.out, c.put_dashed.ensures.0, c.put_dashed.auto.out)
 
 part-put_dashed-end-2 : tie.Need-slice_bounds-put_dashed-end-2
 part-put_dashed-end-2 c = search rules
@@ -68,25 +68,25 @@ put_dashed-requires-3 : tie.Need-put_dashed-requires-2
 put_dashed-requires-3 c κs =
     let put-dashed = c.put_dashed-second in
     let put-dashed2 = c.put_dashed in
-    omega (arith, length_text c.args.id, c.text_size-needed.ensures, c.if-out-needed.false, put-dashed.ensures.0, put-dashed.auto.0, put-dashed2.ensures.0, put-dashed2.auto.0)
+    omega (arith, length_text c.args.id, c.text_size-needed.ensures, c.if-out-needed.false, put-dashed.ensures.0, put-dashed.auto.out, put-dashed2.ensures.0, put-dashed2.auto.out)
 
 add-last : tie.Need-overflow_add-last
 add-last c =
     let put-dashed = c.put_dashed-second in
     let put-dashed2 = c.put_dashed in
-    omega (arith, length_text c.args.id, c.text_size-needed.ensures, c.if-out-needed.false, put-dashed.ensures.0, put-dashed.auto.0, put-dashed2.ensures.0, put-dashed2.auto.0, c.put_dashed-2.ensures.0, c.put_dashed-2.auto.0)
+    omega (arith, length_text c.args.id, c.text_size-needed.ensures, c.if-out-needed.false, put-dashed.ensures.0, put-dashed.auto.out, put-dashed2.ensures.0, put-dashed2.auto.out, c.put_dashed-2.ensures.0, c.put_dashed-2.auto.out)
 
 sub-put : tie.Need-slice_bounds-put-count
 sub-put c =
     let put-dashed = c.put_dashed-second in
     let put-dashed2 = c.put_dashed in
-    omega (arith, length_text c.args.id, c.text_size-needed.ensures, c.if-out-needed.false, put-dashed.ensures.0, put-dashed.auto.0, put-dashed2.ensures.0, put-dashed2.auto.0, c.put_dashed-2.ensures.0, c.put_dashed-2.auto.0)
+    omega (arith, length_text c.args.id, c.text_size-needed.ensures, c.if-out-needed.false, put-dashed.ensures.0, put-dashed.auto.out, put-dashed2.ensures.0, put-dashed2.auto.out, c.put_dashed-2.ensures.0, c.put_dashed-2.auto.out)
 
 part-put-start : tie.Need-slice_bounds-put-start
 part-put-start c =
     let put-dashed = c.put_dashed-second in
     let put-dashed2 = c.put_dashed in
-    omega (arith, length_text c.args.id, c.text_size-needed.ensures, c.if-out-needed.false, put-dashed.ensures.0, put-dashed.auto.0, put-dashed2.ensures.0, put-dashed2.auto.0, c.put_dashed-2.ensures.0, c.put_dashed-2.auto.0)
+    omega (arith, length_text c.args.id, c.text_size-needed.ensures, c.if-out-needed.false, put-dashed.ensures.0, put-dashed.auto.out, put-dashed2.ensures.0, put-dashed2.auto.out, c.put_dashed-2.ensures.0, c.put_dashed-2.auto.out)
 
 part-put-end : tie.Need-slice_bounds-put-end
 part-put-end c = search rules
@@ -96,7 +96,7 @@ put-requires c κs =
     let put-dashed = c.put_dashed-second in
     let put-dashed2 = c.put_dashed in
     let put-dashed3 = c.put_dashed-2 in
-    omega (arith, length_text c.args.id, c.text_size-needed.ensures, c.if-out-needed.false, put-dashed.ensures.0, put-dashed.auto.0, put-dashed2.ensures.0, put-dashed2.auto.0, put-dashed3.ensures.0, put-dashed3.auto.0)
+    omega (arith, length_text c.args.id, c.text_size-needed.ensures, c.if-out-needed.false, put-dashed.ensures.0, put-dashed.auto.out, put-dashed2.ensures.0, put-dashed2.auto.out, put-dashed3.ensures.0, put-dashed3.auto.out)
 
 same_length : tie.Need-shape_of-out
 same_length c = search rules

@@ -4,24 +4,24 @@ use borrow.Author.Rules.{rules}
 use Rattle.packet.proofs.has_variable_header.Statement.{statement}
 use Rattle.packet.proofs.has_variable_header.Tie as tie
 
-enum_told : tie.Need-enum-told
+enum_told : tie.Need-enum_told-1
 enum_told c = search rules
 
-enum-told-2 : tie.Need-enum-told-2
-enum-told-2 c = search rules
+enum_told-2 : tie.Need-enum_told-in-Ack
+enum_told-2 c = search rules
 
-enum-told-3 : tie.Need-enum-told-3
-enum-told-3 c = search rules
+enum_told-3 : tie.Need-enum_told-in-SslAck
+enum_told-3 c = search rules
 
-returns : tie.Need-returns
-returns c = rw c.enum_told.given.1
+returns : tie.Need-returns-in-Message
+returns c = rw c.in-Message.is
 
-returns-2 : tie.Need-returns-2
-returns-2 c = rw c.enum-told2.given.1
+returns-2 : tie.Need-returns-in-Ack
+returns-2 c = rw c.in-Ack.is
 
-returns-3 : tie.Need-returns-3
-returns-3 c = rw c.enum-told3.given.1
+returns-3 : tie.Need-returns-in-SslAck
+returns-3 c = rw c.in-SslAck.is
 
-pub has-variable-header-spec : {M : Type 1} → statement M
-has-variable-header-spec =
-    tie.close (tie.spec enum_told enum-told-2 enum-told-3 returns returns-2 returns-3)
+pub has_variable_header_spec : {M : Type 1} → statement M
+has_variable_header_spec =
+    tie.close (tie.spec enum_told enum_told-2 enum_told-3 returns returns-2 returns-3)

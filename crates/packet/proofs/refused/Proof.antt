@@ -10,169 +10,169 @@ use borrow.Author.Rules.{rules}
 use Rattle.packet.proofs.refused.Statement.{statement}
 use Rattle.packet.proofs.refused.Tie as tie
 
-enum-known-error : tie.Need-enum-known-error
-enum-known-error c = search rules
+enum_known-error : tie.Need-enum_known-error
+enum_known-error c = search rules
 
-cast-refusal : tie.Need-overflow-cast-refusal
+cast-refusal : tie.Need-overflow_cast-found
 cast-refusal c = search rules
 
 refusal-requires : tie.Need-refusal-requires
 refusal-requires c κs = search rules
 
-enum-known-error-2 : tie.Need-enum-known-error-2
-enum-known-error-2 c = search rules
+enum_known-error-2 : tie.Need-enum_known-error-in-UnknownType-1
+enum_known-error-2 c = search rules
 
-cast-refusal-2 : tie.Need-overflow-cast-refusal-2
+cast-refusal-2 : tie.Need-overflow_cast-found-in-UnknownType
 cast-refusal-2 c = search rules
 
-refusal-requires-2 : tie.Need-refusal-requires-2
+refusal-requires-2 : tie.Need-refusal-requires-in-UnknownType
 refusal-requires-2 c κs = search rules
 
-enum-known-error-3 : tie.Need-enum-known-error-3
-enum-known-error-3 c = search rules
+enum_known-error-3 : tie.Need-enum_known-error-in-TooManyParts-1
+enum_known-error-3 c = search rules
 
-cast-refusal-3 : tie.Need-overflow-cast-refusal-3
+cast-refusal-3 : tie.Need-overflow_cast-parts
 cast-refusal-3 c = search rules
 
-refusal-requires-3 : tie.Need-refusal-requires-3
+refusal-requires-3 : tie.Need-refusal-requires-in-TooManyParts
 refusal-requires-3 c κs = search rules
 
-enum-known-error-4 : tie.Need-enum-known-error-4
-enum-known-error-4 c = search rules
+enum_known-error-4 : tie.Need-enum_known-error-in-PartTooLarge-1
+enum_known-error-4 c = search rules
 
-cast-refusal-4 : tie.Need-overflow-cast-refusal-4
+cast-refusal-4 : tie.Need-overflow_cast-size
 cast-refusal-4 c = search rules
 
-refusal-requires-4 : tie.Need-refusal-requires-4
+refusal-requires-4 : tie.Need-refusal-requires-in-PartTooLarge
 refusal-requires-4 c κs = search rules
 
-enum-known-error-5 : tie.Need-enum-known-error-5
-enum-known-error-5 c = search rules
+enum_known-error-5 : tie.Need-enum_known-error-in-FixedHeaderChecksum-1
+enum_known-error-5 c = search rules
 
-refusal-requires-5 : tie.Need-refusal-requires-5
+refusal-requires-5 : tie.Need-refusal-requires-in-FixedHeaderChecksum
 refusal-requires-5 c κs = search rules
 
-enum-known-error-6 : tie.Need-enum-known-error-6
-enum-known-error-6 c = search rules
+enum_known-error-6 : tie.Need-enum_known-error-in-VariableHeaderChecksum-1
+enum_known-error-6 c = search rules
 
-refusal-requires-6 : tie.Need-refusal-requires-6
+refusal-requires-6 : tie.Need-refusal-requires-in-VariableHeaderChecksum
 refusal-requires-6 c κs = search rules
 
-enum-known-error-7 : tie.Need-enum-known-error-7
-enum-known-error-7 c = search rules
+enum_known-error-7 : tie.Need-enum_known-error-in-PartChecksum-1
+enum_known-error-7 c = search rules
 
-refusal-requires-7 : tie.Need-refusal-requires-7
+refusal-requires-7 : tie.Need-refusal-requires-in-PartChecksum
 refusal-requires-7 c κs = search rules
 
-enum-known-error-8 : tie.Need-enum-known-error-8
-enum-known-error-8 c = search rules
+enum_known-error-8 : tie.Need-enum_known-error-in-MessageTooLarge-1
+enum_known-error-8 c = search rules
 
-refusal-requires-8 : tie.Need-refusal-requires-8
+refusal-requires-8 : tie.Need-refusal-requires-in-MessageTooLarge
 refusal-requires-8 c κs = search rules
 
-enum-known-error-9 : tie.Need-enum-known-error-9
-enum-known-error-9 c = search rules
+enum_known-error-9 : tie.Need-enum_known-error-in-NoRoom-1
+enum_known-error-9 c = search rules
 
-room-number-requires : tie.Need-room-number-requires
-room-number-requires c κs = search rules
+room_number-requires : tie.Need-room_number-requires
+room_number-requires c κs = search rules
 
-refusal-requires-9 : tie.Need-refusal-requires-9
+refusal-requires-9 : tie.Need-refusal-requires-in-NoRoom
 refusal-requires-9 c κs = search rules
 
-enum-known-error-10 : tie.Need-enum-known-error-10
-enum-known-error-10 c = search rules
+enum_known-error-10 : tie.Need-enum_known-error-in-BadTable-1
+enum_known-error-10 c = search rules
 
-refusal-requires-10 : tie.Need-refusal-requires-10
+refusal-requires-10 : tie.Need-refusal-requires-in-BadTable
 refusal-requires-10 c κs = search rules
 
-enum-known-error-11 : tie.Need-enum-known-error-11
-enum-known-error-11 c = search rules
+enum_known-error-11 : tie.Need-enum_known-error-in-RetiredType-1
+enum_known-error-11 c = search rules
 
-cast-refusal-5 : tie.Need-overflow-cast-refusal-5
+cast-refusal-5 : tie.Need-overflow_cast-found-in-RetiredType
 cast-refusal-5 c = search rules
 
-refusal-requires-11 : tie.Need-refusal-requires-11
+refusal-requires-11 : tie.Need-refusal-requires-in-RetiredType
 refusal-requires-11 c κs = search rules
 
-returns : tie.Need-returns
+returns : tie.Need-returns-in-Signature
 returns c =
-    case (λ (e : PacketError). refusal e c.before.before.before.before.args.consumed) c.before.before.error.given.1 c.refusal.ensures
+    case (λ (e : PacketError). refusal e c.args.consumed) c.in-Signature.is c.refusal.ensures
 
-returns-2 : tie.Need-returns-2
+returns-2 : tie.Need-returns-in-UnknownType
 returns-2 c =
-    case (λ (e : PacketError). refusal e c.before.before.before.before.args.consumed) c.before.before.error2.given.1 c.refusal2.ensures
+    case (λ (e : PacketError). refusal e c.args.consumed) c.in-UnknownType.is c.refusal-in-UnknownType.ensures
 
-returns-3 : tie.Need-returns-3
+returns-3 : tie.Need-returns-in-TooManyParts
 returns-3 c =
-    case (λ (e : PacketError). refusal e c.before.before.before.before.args.consumed) c.before.before.error3.given.1 c.refusal3.ensures
+    case (λ (e : PacketError). refusal e c.args.consumed) c.in-TooManyParts.is c.refusal-in-TooManyParts.ensures
 
-returns-4 : tie.Need-returns-4
+returns-4 : tie.Need-returns-in-PartTooLarge
 returns-4 c =
-    case (λ (e : PacketError). refusal e c.before.before.before.before.args.consumed) c.before.before.error4.given.1 c.refusal4.ensures
+    case (λ (e : PacketError). refusal e c.args.consumed) c.in-PartTooLarge.is c.refusal-in-PartTooLarge.ensures
 
-returns-5 : tie.Need-returns-5
+returns-5 : tie.Need-returns-in-FixedHeaderChecksum
 returns-5 c =
-    case (λ (e : PacketError). refusal e c.before.before.before.before.args.consumed) c.before.before.error5.given.1 c.refusal5.ensures
+    case (λ (e : PacketError). refusal e c.args.consumed) c.in-FixedHeaderChecksum.is c.refusal-in-FixedHeaderChecksum.ensures
 
-returns-6 : tie.Need-returns-6
+returns-6 : tie.Need-returns-in-VariableHeaderChecksum
 returns-6 c =
-    case (λ (e : PacketError). refusal e c.before.before.before.before.args.consumed) c.before.before.error6.given.1 c.refusal6.ensures
+    case (λ (e : PacketError). refusal e c.args.consumed) c.in-VariableHeaderChecksum.is c.refusal-in-VariableHeaderChecksum.ensures
 
-returns-7 : tie.Need-returns-7
+returns-7 : tie.Need-returns-in-PartChecksum
 returns-7 c =
-    case (λ (e : PacketError). refusal e c.before.before.before.before.args.consumed) c.before.before.error7.given.1 c.refusal7.ensures
+    case (λ (e : PacketError). refusal e c.args.consumed) c.in-PartChecksum.is c.refusal-in-PartChecksum.ensures
 
-returns-8 : tie.Need-returns-8
+returns-8 : tie.Need-returns-in-MessageTooLarge
 returns-8 c =
-    case (λ (e : PacketError). refusal e c.before.before.before.before.args.consumed) c.before.before.error8.given.1 c.refusal8.ensures
+    case (λ (e : PacketError). refusal e c.args.consumed) c.in-MessageTooLarge.is c.refusal-in-MessageTooLarge.ensures
 
-returns-9 : tie.Need-returns-9
+returns-9 : tie.Need-returns-in-NoRoom
 returns-9 c =
-    let error9 = c.before.before.before.error9 in
-    let consumed = c.before.before.before.before.before.args.consumed in
-    let short = error9.given.0.0 in
-    case (λ (e : PacketError). refusal e consumed) error9.given.1
-    (c.refusal9.ensures
-    ∙ ap (λ (which : ℕ). outcome_of 2 17 consumed (which ∷ short.needed ∷ short.given ∷ [])) c.before.room-number.ensures)
+    let error9 = c.in-NoRoom in
+    let consumed = c.args.consumed in
+    let short = error9.short in
+    case (λ (e : PacketError). refusal e consumed) error9.is
+    (c.refusal-in-NoRoom.ensures
+    ∙ ap (λ (which : ℕ). outcome_of 2 17 consumed (which ∷ short.needed ∷ short.given ∷ [])) c.room_number.ensures)
 
-returns-10 : tie.Need-returns-10
+returns-10 : tie.Need-returns-in-BadTable
 returns-10 c =
-    case (λ (e : PacketError). refusal e c.before.before.before.before.args.consumed) c.before.before.error10.given.1 c.refusal10.ensures
+    case (λ (e : PacketError). refusal e c.args.consumed) c.in-BadTable.is c.refusal-in-BadTable.ensures
 
-returns-11 : tie.Need-returns-11
+returns-11 : tie.Need-returns-in-RetiredType
 returns-11 c =
-    case (λ (e : PacketError). refusal e c.before.before.before.before.args.consumed) c.before.before.error11.given.1 c.refusal11.ensures
+    case (λ (e : PacketError). refusal e c.args.consumed) c.in-RetiredType.is c.refusal-in-RetiredType.ensures
 
-pub refused-spec : {M : Type 1} → statement M
-refused-spec =
+pub refused_spec : {M : Type 1} → statement M
+refused_spec =
     tie.close
     (tie.spec
-    enum-known-error
+    enum_known-error
     cast-refusal
     refusal-requires
-    enum-known-error-2
+    enum_known-error-2
     cast-refusal-2
     refusal-requires-2
-    enum-known-error-3
+    enum_known-error-3
     cast-refusal-3
     refusal-requires-3
-    enum-known-error-4
+    enum_known-error-4
     cast-refusal-4
     refusal-requires-4
-    enum-known-error-5
+    enum_known-error-5
     refusal-requires-5
-    enum-known-error-6
+    enum_known-error-6
     refusal-requires-6
-    enum-known-error-7
+    enum_known-error-7
     refusal-requires-7
-    enum-known-error-8
+    enum_known-error-8
     refusal-requires-8
-    enum-known-error-9
-    room-number-requires
+    enum_known-error-9
+    room_number-requires
     refusal-requires-9
-    enum-known-error-10
+    enum_known-error-10
     refusal-requires-10
-    enum-known-error-11
+    enum_known-error-11
     cast-refusal-5
     refusal-requires-11
     returns

@@ -5,14 +5,14 @@ use Rattle.text_spell.proofs.DigitLaws.{past_capital, other_capital}
 use Rattle.text_spell.proofs.capital_value.Statement.{statement}
 use Rattle.text_spell.proofs.capital_value.Tie as tie
 
-returns : tie.Need-returns
-returns c = past_capital _ c.if1.true
+returns : tie.Need-returns-then-byte-gt70
+returns c = past_capital _ c.if-byte-gt70.true
 
-digit-value-requires : tie.Need-digit-value-requires
-digit-value-requires c κs = search rules
+digit_value-requires : tie.Need-digit_value-requires
+digit_value-requires c κs = search rules
 
-returns-2 : tie.Need-returns-2
-returns-2 c = c.digit_value.ensures ∙ other_capital _ c.before.if1.false
+returns-2 : tie.Need-returns
+returns-2 c = c.digit_value.ensures ∙ other_capital _ c.if-byte-gt70.false
 
-pub capital-value-spec : {M : Type 1} → statement M
-capital-value-spec = tie.close (tie.spec returns digit-value-requires returns-2)
+pub capital_value_spec : {M : Type 1} → statement M
+capital_value_spec = tie.close (tie.spec returns digit_value-requires returns-2)

@@ -4,77 +4,77 @@ use borrow.Author.Rules.{rules}
 use Rattle.error_table.proofs.table.bad_error.Statement.{statement}
 use Rattle.error_table.proofs.table.bad_error.Tie as tie
 
-mul-if1 : tie.Need-overflow-mul-if1
+mul-if1 : tie.Need-overflow_mul-i
 mul-if1 c = search rules
 
-mul-if1-2 : tie.Need-overflow-mul-if1-2
+mul-if1-2 : tie.Need-offset_bounds-errors-i
 mul-if1-2 c = search rules
 
-shared-slice-read-if1 : tie.Need-shared-slice-read-if1
-shared-slice-read-if1 c = search rules
+shared_slice_read-if1 : tie.Need-bounds-errors-i
+shared_slice_read-if1 c = search rules
 
-returns : tie.Need-returns
+returns : tie.Need-returns-then-errors-i-gt4294967295
 returns c =
-    let start = c.before.before.before in
-    code_wide start.args.size start.args.errors.now start.args.i c.if1.true
+    let start = c in
+    code_wide start.args.size start.args.errors.now start.args.i c.if-errors-i-gt4294967295.true
 
-bad-depth-requires : tie.Need-bad-depth-requires
-bad-depth-requires c κs = search rules
+bad_depth-requires : tie.Need-bad_depth-requires
+bad_depth-requires c κs = search rules
 
-returns-2 : tie.Need-returns-2
+returns-2 : tie.Need-returns-then-bad_depth
 returns-2 c =
-    let start = c.before.before.before.before.before in
-    error_deep start.args.size start.args.errors.now start.args.i c.before.before.if1.false _ c.before.bad-depth.ensures c.if2.true
+    let start = c in
+    error_deep start.args.size start.args.errors.now start.args.i c.if-errors-i-gt4294967295.false _ c.bad_depth.ensures c.if-bad_depth.true
 
-mul-reaches-outside : tie.Need-overflow-mul-reaches-outside
-mul-reaches-outside c = search rules
+mul-reaches_outside : tie.Need-overflow_mul-i-2
+mul-reaches_outside c = search rules
 
-add-reaches-outside : tie.Need-overflow-add-reaches-outside
-add-reaches-outside c = search rules
+add-reaches_outside : tie.Need-overflow_add-i
+add-reaches_outside c = search rules
 
-mul-reaches-outside-2 : tie.Need-overflow-mul-reaches-outside-2
-mul-reaches-outside-2 c = search rules
+mul-reaches_outside-2 : tie.Need-offset_bounds-errors-i-2
+mul-reaches_outside-2 c = search rules
 
-shared-slice-read-reaches-outside : tie.Need-shared-slice-read-reaches-outside
-shared-slice-read-reaches-outside c = search rules
+shared_slice_read-reaches_outside : tie.Need-bounds-errors-i-2
+shared_slice_read-reaches_outside c = search rules
 
-mul-reaches-outside-3 : tie.Need-overflow-mul-reaches-outside-3
-mul-reaches-outside-3 c = search rules
+mul-reaches_outside-3 : tie.Need-overflow_mul-i-3
+mul-reaches_outside-3 c = search rules
 
-add-reaches-outside-2 : tie.Need-overflow-add-reaches-outside-2
-add-reaches-outside-2 c = search rules
+add-reaches_outside-2 : tie.Need-overflow_add-i-2
+add-reaches_outside-2 c = search rules
 
-mul-reaches-outside-4 : tie.Need-overflow-mul-reaches-outside-4
-mul-reaches-outside-4 c = search rules
+mul-reaches_outside-4 : tie.Need-offset_bounds-errors-i-3
+mul-reaches_outside-4 c = search rules
 
-shared-slice-read-reaches-outside-2 : tie.Need-shared-slice-read-reaches-outside-2
-shared-slice-read-reaches-outside-2 c = search rules
+shared_slice_read-reaches_outside-2 : tie.Need-bounds-errors-i-3
+shared_slice_read-reaches_outside-2 c = search rules
 
-reaches-outside-requires : tie.Need-reaches-outside-requires
-reaches-outside-requires c κs = search rules
+reaches_outside-requires : tie.Need-reaches_outside-requires
+reaches_outside-requires c κs = search rules
 
-returns-3 : tie.Need-returns-3
+returns-3 : tie.Need-returns
 returns-3 c =
-    let start = c.before.before.before.before.before.before.before.before in
-    error_text start.args.size start.args.errors.now start.args.i c.before.before.before.before.before.if1.false _ c.before.before.before.before.bad-depth.ensures c.before.before.before.if2.false _ c.reaches-outside.ensures
+    let start = c in
+    error_text start.args.size start.args.errors.now start.args.i c.if-errors-i-gt4294967295.false _ c.bad_depth.ensures c.if-bad_depth.false _ c.reaches_outside.ensures
 
-pub bad-error-spec : {M : Type 1} → statement M
-bad-error-spec =
+pub bad_error_spec : {M : Type 1} → statement M
+bad_error_spec =
     tie.close
     (tie.spec
     mul-if1
     mul-if1-2
-    shared-slice-read-if1
+    shared_slice_read-if1
     returns
-    bad-depth-requires
+    bad_depth-requires
     returns-2
-    mul-reaches-outside
-    add-reaches-outside
-    mul-reaches-outside-2
-    shared-slice-read-reaches-outside
-    mul-reaches-outside-3
-    add-reaches-outside-2
-    mul-reaches-outside-4
-    shared-slice-read-reaches-outside-2
-    reaches-outside-requires
+    mul-reaches_outside
+    add-reaches_outside
+    mul-reaches_outside-2
+    shared_slice_read-reaches_outside
+    mul-reaches_outside-3
+    add-reaches_outside-2
+    mul-reaches_outside-4
+    shared_slice_read-reaches_outside-2
+    reaches_outside-requires
     returns-3)

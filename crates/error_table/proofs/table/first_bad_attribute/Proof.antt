@@ -7,43 +7,43 @@ use Rattle.error_table.proofs.TableLaws.{Seeking, seek_begin, seek_end, seek_hit
 use Rattle.error_table.proofs.table.first_bad_attribute.Statement.{statement}
 use Rattle.error_table.proofs.table.first_bad_attribute.Tie as tie
 
-abbrev invariant-loop : tie.invariant-loop
+abbrev invariant-loop : tie.invariant-loop-k
 invariant-loop size errors attributes n k₀ k = (n ≡ attributes_in attributes) × Seeking (bad_attribute size errors attributes) (attributes_in attributes) k
 
-abbrev decreases-loop : tie.decreases-loop
+abbrev decreases-loop : tie.decreases-loop-k
 decreases-loop size errors attributes n k₀ k = n - k
 
-loop-holds : tie.Need-loop-init invariant-loop decreases-loop
+loop-holds : tie.Need-loop-k-init invariant-loop decreases-loop
 loop-holds c = (refl, seek_begin _ _)
 
-bad-attribute-requires : tie.Need-bad-attribute-requires invariant-loop decreases-loop
-bad-attribute-requires c κs = omega arith
+bad_attribute-requires : tie.Need-bad_attribute-requires invariant-loop decreases-loop
+bad_attribute-requires c κs = omega arith
 
-returns : tie.Need-returns invariant-loop decreases-loop
+returns : tie.Need-returns-then-bad_attribute invariant-loop decreases-loop
 unfolding first_bad_attribute
-returns c = seek_hit _ _ _ c.before.before.before.loop.invariant.1 (omega arith) _ c.before.bad-attribute.ensures c.if1.true
+returns c = seek_hit _ _ _ c.loop-k.invariant.1 (omega arith) _ c.bad_attribute.ensures c.if-bad_attribute.true
 
-add-k : tie.Need-overflow-add-k invariant-loop decreases-loop
+add-k : tie.Need-overflow_add-k invariant-loop decreases-loop
 add-k c = omega arith
 
-loop-less : tie.Need-loop-smaller invariant-loop decreases-loop
+loop-less : tie.Need-loop-k-smaller invariant-loop decreases-loop
 loop-less c = omega arith
 
-loop-again : tie.Need-loop-preserved invariant-loop decreases-loop
-loop-again c = (omega arith, seek_miss _ _ _ c.before.before.before.loop.invariant.1 (omega arith) _ c.before.bad-attribute.ensures c.if1.false)
+loop-again : tie.Need-loop-k-preserved invariant-loop decreases-loop
+loop-again c = (omega arith, seek_miss _ _ _ c.loop-k.invariant.1 (omega arith) _ c.bad_attribute.ensures c.if-bad_attribute.false)
 
-returns-2 : tie.Need-returns-2 invariant-loop decreases-loop
+returns-2 : tie.Need-returns invariant-loop decreases-loop
 unfolding first_bad_attribute
-returns-2 c = seek_end _ _ _ c.before.loop.invariant.1 (omega arith)
+returns-2 c = seek_end _ _ _ c.loop-k.invariant.1 (omega arith)
 
-pub first-bad-attribute-spec : {M : Type 1} → statement M
-first-bad-attribute-spec =
+pub first_bad_attribute_spec : {M : Type 1} → statement M
+first_bad_attribute_spec =
     tie.close
     (tie.spec
     invariant-loop
     decreases-loop
     loop-holds
-    bad-attribute-requires
+    bad_attribute-requires
     returns
     add-k
     loop-less

@@ -7,43 +7,43 @@ use Rattle.error_table.proofs.TableLaws.{Seeking, seek_begin, seek_end, seek_hit
 use Rattle.error_table.proofs.table.first_bad_error.Statement.{statement}
 use Rattle.error_table.proofs.table.first_bad_error.Tie as tie
 
-abbrev invariant-loop : tie.invariant-loop
+abbrev invariant-loop : tie.invariant-loop-i
 invariant-loop size errors n i₀ i = (n ≡ errors_in errors) × Seeking (bad_error size errors) (errors_in errors) i
 
-abbrev decreases-loop : tie.decreases-loop
+abbrev decreases-loop : tie.decreases-loop-i
 decreases-loop size errors n i₀ i = n - i
 
-loop-holds : tie.Need-loop-init invariant-loop decreases-loop
+loop-holds : tie.Need-loop-i-init invariant-loop decreases-loop
 loop-holds c = (refl, seek_begin _ _)
 
-bad-error-requires : tie.Need-bad-error-requires invariant-loop decreases-loop
-bad-error-requires c κs = omega arith
+bad_error-requires : tie.Need-bad_error-requires invariant-loop decreases-loop
+bad_error-requires c κs = omega arith
 
-returns : tie.Need-returns invariant-loop decreases-loop
+returns : tie.Need-returns-then-bad_error invariant-loop decreases-loop
 unfolding first_bad_error
-returns c = seek_hit _ _ _ c.before.before.before.loop.invariant.1 (omega arith) _ c.before.bad-error.ensures c.if1.true
+returns c = seek_hit _ _ _ c.loop-i.invariant.1 (omega arith) _ c.bad_error.ensures c.if-bad_error.true
 
-add-i : tie.Need-overflow-add-i invariant-loop decreases-loop
+add-i : tie.Need-overflow_add-i invariant-loop decreases-loop
 add-i c = omega arith
 
-loop-less : tie.Need-loop-smaller invariant-loop decreases-loop
+loop-less : tie.Need-loop-i-smaller invariant-loop decreases-loop
 loop-less c = omega arith
 
-loop-again : tie.Need-loop-preserved invariant-loop decreases-loop
-loop-again c = (omega arith, seek_miss _ _ _ c.before.before.before.loop.invariant.1 (omega arith) _ c.before.bad-error.ensures c.if1.false)
+loop-again : tie.Need-loop-i-preserved invariant-loop decreases-loop
+loop-again c = (omega arith, seek_miss _ _ _ c.loop-i.invariant.1 (omega arith) _ c.bad_error.ensures c.if-bad_error.false)
 
-returns-2 : tie.Need-returns-2 invariant-loop decreases-loop
+returns-2 : tie.Need-returns invariant-loop decreases-loop
 unfolding first_bad_error
-returns-2 c = seek_end _ _ _ c.before.loop.invariant.1 (omega arith)
+returns-2 c = seek_end _ _ _ c.loop-i.invariant.1 (omega arith)
 
-pub first-bad-error-spec : {M : Type 1} → statement M
-first-bad-error-spec =
+pub first_bad_error_spec : {M : Type 1} → statement M
+first_bad_error_spec =
     tie.close
     (tie.spec
     invariant-loop
     decreases-loop
     loop-holds
-    bad-error-requires
+    bad_error-requires
     returns
     add-i
     loop-less

@@ -4,38 +4,38 @@ use borrow.Author.Rules.{rules}
 use Rattle.error_tree.proofs.message.read_known.Statement.{statement}
 use Rattle.error_tree.proofs.message.read_known.Tie as tie
 
-read-field-requires : tie.Need-read-field-requires
-read-field-requires c κs = search rules
+read_field-requires : tie.Need-read_field-requires
+read_field-requires c κs = search rules
 
-enum_told : tie.Need-enum-told
+enum_told : tie.Need-enum_told-1
 enum_told c = search rules
 
-enum-known-number : tie.Need-enum-known-number
-enum-known-number c = search rules
+enum_known-number : tie.Need-enum_known-number
+enum_known-number c = search rules
 
-wire-type-requires : tie.Need-wire-type-requires
-wire-type-requires c κs = search rules
+wire_type-requires : tie.Need-wire_type-own-requires
+wire_type-requires c κs = search rules
 
-returns : tie.Need-returns
-returns c = known_any _ _ _ _ _ c.before.before.before.before.before.read-field.ensures _ _ _ _ _ c.before.before.before.number.given.1 _ c.before.wire-type.ensures c.if1.true
+returns : tie.Need-returns-then-own-eq-ANY_TYPE
+returns c = known_any _ _ _ _ _ c.read_field.ensures _ _ _ _ _ c.in-Whole.is _ c.wire_type-own.ensures c.if-own-eq-ANY_TYPE.true
 
-returns-2 : tie.Need-returns-2
-returns-2 c = known_own _ _ _ _ _ c.before.before.before.before.before.before.read-field.ensures _ _ _ _ _ c.before.before.before.before.number.given.1 _ c.before.before.wire-type.ensures c.before.if1.false c.if2.true
+returns-2 : tie.Need-returns-then-own-wire
+returns-2 c = known_own _ _ _ _ _ c.read_field.ensures _ _ _ _ _ c.in-Whole.is _ c.wire_type-own.ensures c.if-own-eq-ANY_TYPE.false c.if-own-wire.true
 
-returns-3 : tie.Need-returns-3
-returns-3 c = known_broken _ _ _ _ _ c.before.before.read-field.ensures c.enum_told.given.1
+returns-3 : tie.Need-returns-in-Broken
+returns-3 c = known_broken _ _ _ _ _ c.read_field.ensures c.in-Broken.is
 
-returns-4 : tie.Need-returns-4
-returns-4 c = known_other _ _ _ _ _ c.before.before.before.before.before.before.read-field.ensures _ _ _ _ _ c.before.before.before.before.number.given.1 _ c.before.before.wire-type.ensures c.before.if1.false c.if2.false
+returns-4 : tie.Need-returns-else-own-wire
+returns-4 c = known_other _ _ _ _ _ c.read_field.ensures _ _ _ _ _ c.in-Whole.is _ c.wire_type-own.ensures c.if-own-eq-ANY_TYPE.false c.if-own-wire.false
 
-pub read-known-spec : {M : Type 1} → statement M
-read-known-spec =
+pub read_known_spec : {M : Type 1} → statement M
+read_known_spec =
     tie.close
     (tie.spec
-    read-field-requires
+    read_field-requires
     enum_told
-    enum-known-number
-    wire-type-requires
+    enum_known-number
+    wire_type-requires
     returns
     returns-2
     returns-3

@@ -5,18 +5,18 @@ use borrow.Author.Rules.{rules}
 use Rattle.error_write.proofs.size.delimited_size.Statement.{statement}
 use Rattle.error_write.proofs.size.delimited_size.Tie as tie
 
-varint-size-requires : tie.Need-varint-size-requires
-varint-size-requires c κs = search rules
+varint_size-requires : tie.Need-varint_size-requires
+varint_size-requires c κs = search rules
 
-add-add-capped : tie.Need-overflow-add-add-capped
-add-add-capped c = omega (arith, c.varint_size.ensures, varint_few c.before.args.n)
+add-add_capped : tie.Need-overflow_add-varint_size
+add-add_capped c = omega (arith, c.varint_size.ensures, varint_few c.args.n)
 
-add-capped-requires : tie.Need-add-capped-requires
-add-capped-requires c κs = search rules
+add_capped-requires : tie.Need-add_capped-requires
+add_capped-requires c κs = search rules
 
 returns : tie.Need-returns
-returns c = lead_of c.before.before.args.n c.before.varint_size.ensures c.add-capped.ensures
+returns c = lead_of c.args.n c.varint_size.ensures c.add_capped.ensures
 
-pub delimited-size-spec : {M : Type 1} → statement M
-delimited-size-spec =
-    tie.close (tie.spec varint-size-requires add-add-capped add-capped-requires returns)
+pub delimited_size_spec : {M : Type 1} → statement M
+delimited_size_spec =
+    tie.close (tie.spec varint_size-requires add-add_capped add_capped-requires returns)

@@ -4,14 +4,14 @@ use borrow.Author.Rules.{rules}
 use Rattle.error_write.proofs.size.dictionary_size.Statement.{statement}
 use Rattle.error_write.proofs.size.dictionary_size.Tie as tie
 
-returns : tie.Need-returns
-returns c = dictionary_none _ c.if1.true
+returns : tie.Need-returns-then-entries-eq0
+returns c = dictionary_none _ c.if-entries-eq0.true
 
-delimited-size-requires : tie.Need-delimited-size-requires
-delimited-size-requires c κs = search rules
+delimited_size-requires : tie.Need-delimited_size-requires
+delimited_size-requires c κs = search rules
 
-returns-2 : tie.Need-returns-2
-returns-2 c = dictionary_some _ c.before.if1.false c.delimited-size.ensures
+returns-2 : tie.Need-returns
+returns-2 c = dictionary_some _ c.if-entries-eq0.false c.delimited_size.ensures
 
-pub dictionary-size-spec : {M : Type 1} → statement M
-dictionary-size-spec = tie.close (tie.spec returns delimited-size-requires returns-2)
+pub dictionary_size_spec : {M : Type 1} → statement M
+dictionary_size_spec = tie.close (tie.spec returns delimited_size-requires returns-2)

@@ -4,13 +4,13 @@ use borrow.Author.Rules.{rules}
 use Rattle.error_write.proofs.size.error_size.Statement.{statement}
 use Rattle.error_write.proofs.size.error_size.Tie as tie
 
-size-checked-requires : tie.Need-size-checked-requires
-size-checked-requires c κs = search rules
+size_checked-requires : tie.Need-size_checked-requires
+size_checked-requires c κs = search rules
 
 returns : tie.Need-returns
 returns c =
-    let start = c.before.before.before.before in
-    sizes_measure start.args.area.now start.args.errors.now start.args.attributes.now c.size-checked.result c.size-checked.ensures
+    let start = c in
+    sizes_measure start.args.area.now start.args.errors.now start.args.attributes.now c.size_checked.result c.size_checked.ensures
 
-pub error-size-spec : {M : Type 1} → statement M
-error-size-spec = tie.close (tie.spec size-checked-requires returns)
+pub error_size_spec : {M : Type 1} → statement M
+error_size_spec = tie.close (tie.spec size_checked-requires returns)

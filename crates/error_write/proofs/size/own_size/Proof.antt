@@ -8,65 +8,65 @@ use borrow.Author.Rules.{rules}
 use Rattle.error_write.proofs.size.own_size.Statement.{statement}
 use Rattle.error_write.proofs.size.own_size.Tie as tie
 
-mul-varint-size : tie.Need-overflow-mul-varint-size
-mul-varint-size c = search rules
+mul-varint_size : tie.Need-overflow_mul-i
+mul-varint_size c = search rules
 
-mul-varint-size-2 : tie.Need-overflow-mul-varint-size-2
-mul-varint-size-2 c = search rules
+mul-varint_size-2 : tie.Need-offset_bounds-errors-i
+mul-varint_size-2 c = search rules
 
-shared-slice-read-varint-size : tie.Need-shared-slice-read-varint-size
-shared-slice-read-varint-size c = search rules
+shared_slice_read-varint_size : tie.Need-bounds-errors-i
+shared_slice_read-varint_size c = search rules
 
-varint-size-requires : tie.Need-varint-size-requires
-varint-size-requires c κs = search rules
+varint_size-requires : tie.Need-varint_size-requires
+varint_size-requires c κs = search rules
 
-add-code : tie.Need-overflow-add-code
+add-code : tie.Need-overflow_add-code
 add-code c =
-    let start = c.before.before.before in
+    let start = c in
     omega (arith, c.varint_size.ensures, varint_few (code_in start.args.errors.now start.args.i))
 
-mul-delimited-size : tie.Need-overflow-mul-delimited-size
-mul-delimited-size c = search rules
+mul-delimited_size : tie.Need-overflow_mul-i-2
+mul-delimited_size c = search rules
 
-add-delimited-size : tie.Need-overflow-add-delimited-size
-add-delimited-size c = search rules
+add-delimited_size : tie.Need-overflow_add-i
+add-delimited_size c = search rules
 
-mul-delimited-size-2 : tie.Need-overflow-mul-delimited-size-2
-mul-delimited-size-2 c = search rules
+mul-delimited_size-2 : tie.Need-offset_bounds-errors-i-2
+mul-delimited_size-2 c = search rules
 
-shared-slice-read-delimited-size : tie.Need-shared-slice-read-delimited-size
-shared-slice-read-delimited-size c = search rules
+shared_slice_read-delimited_size : tie.Need-bounds-errors-i-2
+shared_slice_read-delimited_size c = search rules
 
-delimited-size-requires : tie.Need-delimited-size-requires
-delimited-size-requires c κs = search rules
+delimited_size-requires : tie.Need-delimited_size-requires
+delimited_size-requires c κs = search rules
 
-add-capped-requires : tie.Need-add-capped-requires
-add-capped-requires c κs = search rules
+add_capped-requires : tie.Need-add_capped-head-requires
+add_capped-requires c κs = search rules
 
-dictionary-size-requires : tie.Need-dictionary-size-requires
-dictionary-size-requires c κs = search rules
+dictionary_size-requires : tie.Need-dictionary_size-requires
+dictionary_size-requires c κs = search rules
 
-add-capped-requires-2 : tie.Need-add-capped-requires-2
-add-capped-requires-2 c κs = search rules
+add_capped-requires-2 : tie.Need-add_capped-requires
+add_capped-requires-2 c κs = search rules
 
 returns : tie.Need-returns
-returns c = sum_of _ _ (sum_behind _ _ (ap (λ (n : ℕ). 1 + n) c.before.before.before.before.before.varint_size.ensures) c.before.before.before.delimited-size.ensures c.before.before.add-capped.ensures) c.before.dictionary-size.ensures c.add-capped2.ensures
+returns c = sum_of _ _ (sum_behind _ _ (ap (λ (n : ℕ). 1 + n) c.varint_size.ensures) c.delimited_size.ensures c.add_capped-head.ensures) c.dictionary_size.ensures c.add_capped.ensures
 
-pub own-size-spec : {M : Type 1} → statement M
-own-size-spec =
+pub own_size_spec : {M : Type 1} → statement M
+own_size_spec =
     tie.close
     (tie.spec
-    mul-varint-size
-    mul-varint-size-2
-    shared-slice-read-varint-size
-    varint-size-requires
+    mul-varint_size
+    mul-varint_size-2
+    shared_slice_read-varint_size
+    varint_size-requires
     add-code
-    mul-delimited-size
-    add-delimited-size
-    mul-delimited-size-2
-    shared-slice-read-delimited-size
-    delimited-size-requires
-    add-capped-requires
-    dictionary-size-requires
-    add-capped-requires-2
+    mul-delimited_size
+    add-delimited_size
+    mul-delimited_size-2
+    shared_slice_read-delimited_size
+    delimited_size-requires
+    add_capped-requires
+    dictionary_size-requires
+    add_capped-requires-2
     returns)

@@ -5,47 +5,47 @@ use borrow.Author.Rules.{rules}
 use Rattle.error_write.proofs.write.encode_error.Statement.{statement}
 use Rattle.error_write.proofs.write.encode_error.Tie as tie
 
-size-checked-requires : tie.Need-size-checked-requires
-size-checked-requires c κs = search rules
+size_checked-requires : tie.Need-size_checked-requires
+size_checked-requires c κs = search rules
 
-enum-known-refusal : tie.Need-enum-known-refusal
-enum-known-refusal c = search rules
+enum_known-refusal : tie.Need-enum_known-refusal
+enum_known-refusal c = search rules
 
-enum-known-count : tie.Need-enum-known-count
-enum-known-count c = search rules
+enum_known-count : tie.Need-enum_known-count
+enum_known-count c = search rules
 
-returns : tie.Need-returns
+returns : tie.Need-returns-then-out-count
 returns c =
-    let start = c.before.before.before.before.before.before.before.before.before in
-    write_short start.args.area.now start.args.errors.now start.args.attributes.now start.args.out.now _ c.before.before.before.before.size-checked.ensures _ c.before.before.count.given.1 c.if1.true
+    let start = c in
+    write_short start.args.area.now start.args.errors.now start.args.attributes.now start.args.out.now _ c.size_checked.ensures _ c.in-Size.is c.if-out-count.true
 
-write-errors-requires : tie.Need-write-errors-requires
-write-errors-requires c κs =
-    let start = c.before.before.before.before.before.before.before.before.before.before in
-    write_room start.args.area.now start.args.errors.now start.args.attributes.now start.args.out.now _ c.before.before.before.before.before.size-checked.ensures _ c.before.before.before.count.given.1 c.before.if1.false (omega (arith, start.well-formed))
+write_errors-requires : tie.Need-write_errors-requires
+write_errors-requires c κs =
+    let start = c in
+    write_room start.args.area.now start.args.errors.now start.args.attributes.now start.args.out.now _ c.size_checked.ensures _ c.in-Size.is c.if-out-count.false (omega (arith, start.well_formed))
 
-returns-2 : tie.Need-returns-2
+returns-2 : tie.Need-returns-in-Refused
 returns-2 c =
-    let start = c.before.before.before.before.before.before.before.before in
-    write_refused start.args.area.now start.args.errors.now start.args.attributes.now start.args.out.now _ c.before.before.before.size-checked.ensures _ c.before.refusal.given.1
+    let start = c in
+    write_refused start.args.area.now start.args.errors.now start.args.attributes.now start.args.out.now _ c.size_checked.ensures _ c.in-Refused.is
 
-same_length : tie.Need-same-length
+same_length : tie.Need-shape_of-out
 same_length c = search rules
 
-returns-3 : tie.Need-returns-3
+returns-3 : tie.Need-returns-else-out-count
 returns-3 c =
-    let start = c.before.before.before.before.before.before.before.before.before.before.before.before.before in
-    write_done start.args.area.now start.args.errors.now start.args.attributes.now start.args.out.now _ c.before.before.before.before.before.before.before.before.size-checked.ensures _ c.before.before.before.before.before.before.count.given.1 c.before.before.before.before.if1.false _ c.before.before.write-errors.ensures
+    let start = c in
+    write_done start.args.area.now start.args.errors.now start.args.attributes.now start.args.out.now _ c.size_checked.ensures _ c.in-Size.is c.if-out-count.false _ c.write_errors.ensures
 
-pub encode-error-spec : {M : Type 1} → statement M
-encode-error-spec =
+pub encode_error_spec : {M : Type 1} → statement M
+encode_error_spec =
     tie.close
     (tie.spec
-    size-checked-requires
-    enum-known-refusal
-    enum-known-count
+    size_checked-requires
+    enum_known-refusal
+    enum_known-count
     returns
-    write-errors-requires
+    write_errors-requires
     returns-2
     same_length
     returns-3)

@@ -8,54 +8,54 @@ use borrow.Author.Rules.{rules}
 use Rattle.error_write.proofs.write.put_inner.Statement.{statement}
 use Rattle.error_write.proofs.write.put_inner.Tie as tie
 
-put-lead-requires : tie.Need-put-lead-requires
-put-lead-requires c κs =
-    let start = c.before.before.before.before.before in
+put_lead-requires : tie.Need-put_lead-at-requires
+put_lead-requires c κs =
+    let start = c in
     first_room (lead 0x22 start.args.body ++ own_bytes start.args.area.now start.args.errors.now start.args.attributes.now start.args.i) (lead 0x22 start.args.body) (own_bytes start.args.area.now start.args.errors.now start.args.attributes.now start.args.i) start.args.out.now refl start.requires.4
 
-sub-put-own : tie.Need-overflow-sub-put-own
-sub-put-own c =
-    let start = c.before.before.before.before.before.before.before.before in
-    next_place (lead 0x22 start.args.body ++ own_bytes start.args.area.now start.args.errors.now start.args.attributes.now start.args.i) (lead 0x22 start.args.body) (own_bytes start.args.area.now start.args.errors.now start.args.attributes.now start.args.i) start.args.out.now refl start.requires.4 c.before.before.put-lead.new.0 _ c.before.before.put-lead.ensures
+sub-put_own : tie.Need-slice_bounds-put_own-count
+sub-put_own c =
+    let start = c in
+    next_place (lead 0x22 start.args.body ++ own_bytes start.args.area.now start.args.errors.now start.args.attributes.now start.args.i) (lead 0x22 start.args.body) (own_bytes start.args.area.now start.args.errors.now start.args.attributes.now start.args.i) start.args.out.now refl start.requires.4 c.put_lead-at.new.out _ c.put_lead-at.ensures
 
-part-put-own-start : tie.Need-slice-bounds-put-own-start
-part-put-own-start c =
-    let start = c.before.before.before.before.before.before.before.before in
-    next_place (lead 0x22 start.args.body ++ own_bytes start.args.area.now start.args.errors.now start.args.attributes.now start.args.i) (lead 0x22 start.args.body) (own_bytes start.args.area.now start.args.errors.now start.args.attributes.now start.args.i) start.args.out.now refl start.requires.4 c.before.before.put-lead.new.0 _ c.before.before.put-lead.ensures
+part-put_own-start : tie.Need-slice_bounds-put_own-start
+part-put_own-start c =
+    let start = c in
+    next_place (lead 0x22 start.args.body ++ own_bytes start.args.area.now start.args.errors.now start.args.attributes.now start.args.i) (lead 0x22 start.args.body) (own_bytes start.args.area.now start.args.errors.now start.args.attributes.now start.args.i) start.args.out.now refl start.requires.4 c.put_lead-at.new.out _ c.put_lead-at.ensures
 
-part-put-own-end : tie.Need-slice-bounds-put-own-end
-part-put-own-end c = search rules
+part-put_own-end : tie.Need-slice_bounds-put_own-end
+part-put_own-end c = search rules
 
-put-own-requires : tie.Need-put-own-requires
-put-own-requires c κs =
-    let start = c.before.before.before.before.before.before.before.before.before in
-    let put-lead = c.before.before.before.put-lead in
-    (start.requires.0, start.requires.1, start.requires.2, start.requires.3, next_room (lead 0x22 start.args.body ++ own_bytes start.args.area.now start.args.errors.now start.args.attributes.now start.args.i) (lead 0x22 start.args.body) (own_bytes start.args.area.now start.args.errors.now start.args.attributes.now start.args.i) start.args.out.now refl start.requires.4 put-lead.new.0 _ put-lead.ensures)
+put_own-requires : tie.Need-put_own-requires
+put_own-requires c κs =
+    let start = c in
+    let put-lead = c.put_lead-at in
+    (start.requires.0, start.requires.1, start.requires.2, start.requires.3, next_room (lead 0x22 start.args.body ++ own_bytes start.args.area.now start.args.errors.now start.args.attributes.now start.args.i) (lead 0x22 start.args.body) (own_bytes start.args.area.now start.args.errors.now start.args.attributes.now start.args.i) start.args.out.now refl start.requires.4 put-lead.new.out _ put-lead.ensures)
 
-add-result : tie.Need-overflow-add-result
+add-result : tie.Need-overflow_add-result
 add-result c =
-    let start = c.before.before.before.before.before.before.before.before.before.before.before.before in
-    let put-lead = c.before.before.before.before.before.before.put-lead in
-    omega (arith, next_fits (lead 0x22 start.args.body ++ own_bytes start.args.area.now start.args.errors.now start.args.attributes.now start.args.i) (lead 0x22 start.args.body) (own_bytes start.args.area.now start.args.errors.now start.args.attributes.now start.args.i) start.args.out.now refl start.requires.4 put-lead.new.0 _ put-lead.ensures c.before.before.put-own.ensures.0)
+    let start = c in
+    let put-lead = c.put_lead-at in
+    omega (arith, next_fits (lead 0x22 start.args.body ++ own_bytes start.args.area.now start.args.errors.now start.args.attributes.now start.args.i) (lead 0x22 start.args.body) (own_bytes start.args.area.now start.args.errors.now start.args.attributes.now start.args.i) start.args.out.now refl start.requires.4 put-lead.new.out _ put-lead.ensures c.put_own.ensures.0)
 
-same_length : tie.Need-same-length
+same_length : tie.Need-shape_of-out
 same_length c = search rules
 
 returns : tie.Need-returns
 returns c =
-    let start = c.before.before.before.before.before.before.before.before.before.before.before.before in
-    let put-lead = c.before.before.before.before.before.before.put-lead in
-    next_put (lead 0x22 start.args.body ++ own_bytes start.args.area.now start.args.errors.now start.args.attributes.now start.args.i) (lead 0x22 start.args.body) (own_bytes start.args.area.now start.args.errors.now start.args.attributes.now start.args.i) start.args.out.now refl start.requires.4 put-lead.new.0 _ put-lead.ensures c.before.before.put-own.new.0 _ c.before.before.put-own.ensures
+    let start = c in
+    let put-lead = c.put_lead-at in
+    next_put (lead 0x22 start.args.body ++ own_bytes start.args.area.now start.args.errors.now start.args.attributes.now start.args.i) (lead 0x22 start.args.body) (own_bytes start.args.area.now start.args.errors.now start.args.attributes.now start.args.i) start.args.out.now refl start.requires.4 put-lead.new.out _ put-lead.ensures c.put_own.new.out _ c.put_own.ensures
 
-pub put-inner-spec : {M : Type 1} → statement M
-put-inner-spec =
+pub put_inner_spec : {M : Type 1} → statement M
+put_inner_spec =
     tie.close
     (tie.spec
-    put-lead-requires
-    sub-put-own
-    part-put-own-start
-    part-put-own-end
-    put-own-requires
+    put_lead-requires
+    sub-put_own
+    part-put_own-start
+    part-put_own-end
+    put_own-requires
     add-result
     same_length
     returns)

@@ -6,133 +6,133 @@ use borrow.Author.Rules.{rules}
 use Rattle.error_write.proofs.write.put_own.Statement.{statement}
 use Rattle.error_write.proofs.write.put_own.Tie as tie
 
-mul-put-lead : tie.Need-overflow-mul-put-lead
-mul-put-lead c = search rules
+mul-put_lead : tie.Need-overflow_mul-i
+mul-put_lead c = search rules
 
-mul-put-lead-2 : tie.Need-overflow-mul-put-lead-2
-mul-put-lead-2 c = search rules
+mul-put_lead-2 : tie.Need-offset_bounds-errors-i
+mul-put_lead-2 c = search rules
 
-shared-slice-read-put-lead : tie.Need-shared-slice-read-put-lead
-shared-slice-read-put-lead c = search rules
+shared_slice_read-put_lead : tie.Need-bounds-errors-i
+shared_slice_read-put_lead c = search rules
 
-put-lead-requires : tie.Need-put-lead-requires
-put-lead-requires c κs =
-    let start = c.before.before.before.before.before.before in
+put_lead-requires : tie.Need-put_lead-code-requires
+put_lead-requires c κs =
+    let start = c in
     code_room start.args.area.now start.args.errors.now start.args.attributes.now start.args.i start.args.out.now start.requires.4
 
-sub-put-stretch : tie.Need-overflow-sub-put-stretch
-sub-put-stretch c =
-    let start = c.before.before.before.before.before.before.before.before.before in
-    text_place start.args.area.now start.args.errors.now start.args.attributes.now start.args.i start.args.out.now start.requires.4 c.before.before.put-lead.new.0 _ c.before.before.put-lead.ensures
+sub-put_stretch : tie.Need-slice_bounds-put_stretch-count
+sub-put_stretch c =
+    let start = c in
+    text_place start.args.area.now start.args.errors.now start.args.attributes.now start.args.i start.args.out.now start.requires.4 c.put_lead-code.new.out _ c.put_lead-code.ensures
 
-part-put-stretch-start : tie.Need-slice-bounds-put-stretch-start
-part-put-stretch-start c =
-    let start = c.before.before.before.before.before.before.before.before.before in
-    text_place start.args.area.now start.args.errors.now start.args.attributes.now start.args.i start.args.out.now start.requires.4 c.before.before.put-lead.new.0 _ c.before.before.put-lead.ensures
+part-put_stretch-start : tie.Need-slice_bounds-put_stretch-start
+part-put_stretch-start c =
+    let start = c in
+    text_place start.args.area.now start.args.errors.now start.args.attributes.now start.args.i start.args.out.now start.requires.4 c.put_lead-code.new.out _ c.put_lead-code.ensures
 
-part-put-stretch-end : tie.Need-slice-bounds-put-stretch-end
-part-put-stretch-end c = search rules
+part-put_stretch-end : tie.Need-slice_bounds-put_stretch-end
+part-put_stretch-end c = search rules
 
-mul-put-stretch : tie.Need-overflow-mul-put-stretch
-mul-put-stretch c = search rules
+mul-put_stretch : tie.Need-overflow_mul-i-2
+mul-put_stretch c = search rules
 
-add-put-stretch : tie.Need-overflow-add-put-stretch
-add-put-stretch c = search rules
+add-put_stretch : tie.Need-overflow_add-i
+add-put_stretch c = search rules
 
-mul-put-stretch-2 : tie.Need-overflow-mul-put-stretch-2
-mul-put-stretch-2 c = search rules
+mul-put_stretch-2 : tie.Need-offset_bounds-errors-i-2
+mul-put_stretch-2 c = search rules
 
-shared-slice-read-put-stretch : tie.Need-shared-slice-read-put-stretch
-shared-slice-read-put-stretch c = search rules
+shared_slice_read-put_stretch : tie.Need-bounds-errors-i-2
+shared_slice_read-put_stretch c = search rules
 
-mul-put-stretch-3 : tie.Need-overflow-mul-put-stretch-3
-mul-put-stretch-3 c = search rules
+mul-put_stretch-3 : tie.Need-overflow_mul-i-3
+mul-put_stretch-3 c = search rules
 
-add-put-stretch-2 : tie.Need-overflow-add-put-stretch-2
-add-put-stretch-2 c = search rules
+add-put_stretch-2 : tie.Need-overflow_add-i-2
+add-put_stretch-2 c = search rules
 
-mul-put-stretch-4 : tie.Need-overflow-mul-put-stretch-4
-mul-put-stretch-4 c = search rules
+mul-put_stretch-4 : tie.Need-offset_bounds-errors-i-3
+mul-put_stretch-4 c = search rules
 
-shared-slice-read-put-stretch-2 : tie.Need-shared-slice-read-put-stretch-2
-shared-slice-read-put-stretch-2 c = search rules
+shared_slice_read-put_stretch-2 : tie.Need-bounds-errors-i-3
+shared_slice_read-put_stretch-2 c = search rules
 
-put-stretch-requires : tie.Need-put-stretch-requires
-put-stretch-requires c κs =
-    let start = c.before.before.before.before.before.before.before.before.before.before.before.before in
-    let put-lead = c.before.before.before.before.before.put-lead in
-    (text_inside start.requires.0 _ start.requires.1, text_room_lem start.args.area.now start.args.errors.now start.args.attributes.now start.args.i start.args.out.now start.requires.4 put-lead.new.0 _ put-lead.ensures)
+put_stretch-requires : tie.Need-put_stretch-requires
+put_stretch-requires c κs =
+    let start = c in
+    let put-lead = c.put_lead-code in
+    (text_inside start.requires.0 _ start.requires.1, text_room_lem start.args.area.now start.args.errors.now start.args.attributes.now start.args.i start.args.out.now start.requires.4 put-lead.new.out _ put-lead.ensures)
 
-add-text : tie.Need-overflow-add-text
+add-text : tie.Need-overflow_add-text
 add-text c =
-    let start = c.before.before.before.before.before.before.before.before.before.before.before.before.before.before.before in
-    let put-lead = c.before.before.before.before.before.before.before.before.put-lead in
-    omega (arith, text_fits start.args.area.now start.args.errors.now start.args.attributes.now start.args.i start.args.out.now start.requires.4 put-lead.new.0 _ put-lead.ensures c.before.before.put-stretch.new.0 _ c.before.before.put-stretch.ensures)
+    let start = c in
+    let put-lead = c.put_lead-code in
+    omega (arith, text_fits start.args.area.now start.args.errors.now start.args.attributes.now start.args.i start.args.out.now start.requires.4 put-lead.new.out _ put-lead.ensures c.put_stretch.new.out _ c.put_stretch.ensures)
 
-sub-put-dictionary : tie.Need-overflow-sub-put-dictionary
-sub-put-dictionary c =
-    let start = c.before.before.before.before.before.before.before.before.before.before.before.before.before.before.before in
-    let put-lead = c.before.before.before.before.before.before.before.before.put-lead in
-    dictionary_place start.args.area.now start.args.errors.now start.args.attributes.now start.args.i start.args.out.now start.requires.4 put-lead.new.0 _ put-lead.ensures c.before.before.put-stretch.new.0 _ c.before.before.put-stretch.ensures
+sub-put_dictionary : tie.Need-slice_bounds-put_dictionary-count
+sub-put_dictionary c =
+    let start = c in
+    let put-lead = c.put_lead-code in
+    dictionary_place start.args.area.now start.args.errors.now start.args.attributes.now start.args.i start.args.out.now start.requires.4 put-lead.new.out _ put-lead.ensures c.put_stretch.new.out _ c.put_stretch.ensures
 
-part-put-dictionary-start : tie.Need-slice-bounds-put-dictionary-start
-part-put-dictionary-start c =
-    let start = c.before.before.before.before.before.before.before.before.before.before.before.before.before.before.before in
-    let put-lead = c.before.before.before.before.before.before.before.before.put-lead in
-    dictionary_place start.args.area.now start.args.errors.now start.args.attributes.now start.args.i start.args.out.now start.requires.4 put-lead.new.0 _ put-lead.ensures c.before.before.put-stretch.new.0 _ c.before.before.put-stretch.ensures
+part-put_dictionary-start : tie.Need-slice_bounds-put_dictionary-start
+part-put_dictionary-start c =
+    let start = c in
+    let put-lead = c.put_lead-code in
+    dictionary_place start.args.area.now start.args.errors.now start.args.attributes.now start.args.i start.args.out.now start.requires.4 put-lead.new.out _ put-lead.ensures c.put_stretch.new.out _ c.put_stretch.ensures
 
-part-put-dictionary-end : tie.Need-slice-bounds-put-dictionary-end
-part-put-dictionary-end c = search rules
+part-put_dictionary-end : tie.Need-slice_bounds-put_dictionary-end
+part-put_dictionary-end c = search rules
 
-put-dictionary-requires : tie.Need-put-dictionary-requires
-put-dictionary-requires c κs =
-    let start = c.before.before.before.before.before.before.before.before.before.before.before.before.before.before.before.before in
-    let put-lead = c.before.before.before.before.before.before.before.before.before.put-lead in
-    let put-stretch = c.before.before.before.put-stretch in
-    (start.requires.0, start.requires.2, start.requires.3, dictionary_room start.args.area.now start.args.errors.now start.args.attributes.now start.args.i start.args.out.now start.requires.4 put-lead.new.0 _ put-lead.ensures put-stretch.new.0 _ put-stretch.ensures)
+put_dictionary-requires : tie.Need-put_dictionary-requires
+put_dictionary-requires c κs =
+    let start = c in
+    let put-lead = c.put_lead-code in
+    let put-stretch = c.put_stretch in
+    (start.requires.0, start.requires.2, start.requires.3, dictionary_room start.args.area.now start.args.errors.now start.args.attributes.now start.args.i start.args.out.now start.requires.4 put-lead.new.out _ put-lead.ensures put-stretch.new.out _ put-stretch.ensures)
 
-add-result : tie.Need-overflow-add-result
+add-result : tie.Need-overflow_add-result
 add-result c =
-    let start = c.before.before.before.before.before.before.before.before.before.before.before.before.before.before.before.before.before.before.before in
-    let put-lead = c.before.before.before.before.before.before.before.before.before.before.before.before.put-lead in
-    let put-stretch = c.before.before.before.before.before.before.put-stretch in
-    omega (arith, own_fits start.args.area.now start.args.errors.now start.args.attributes.now start.args.i start.args.out.now start.requires.4 put-lead.new.0 _ put-lead.ensures put-stretch.new.0 _ put-stretch.ensures c.before.before.put-dictionary.ensures.0)
+    let start = c in
+    let put-lead = c.put_lead-code in
+    let put-stretch = c.put_stretch in
+    omega (arith, own_fits start.args.area.now start.args.errors.now start.args.attributes.now start.args.i start.args.out.now start.requires.4 put-lead.new.out _ put-lead.ensures put-stretch.new.out _ put-stretch.ensures c.put_dictionary.ensures.0)
 
-same_length : tie.Need-same-length
+same_length : tie.Need-shape_of-out
 same_length c = search rules
 
 returns : tie.Need-returns
 returns c =
-    let start = c.before.before.before.before.before.before.before.before.before.before.before.before.before.before.before.before.before.before.before in
-    let put-lead = c.before.before.before.before.before.before.before.before.before.before.before.before.put-lead in
-    let put-stretch = c.before.before.before.before.before.before.put-stretch in
-    own_put start.args.area.now start.args.errors.now start.args.attributes.now start.args.i start.args.out.now start.requires.4 put-lead.new.0 _ put-lead.ensures put-stretch.new.0 _ put-stretch.ensures c.before.before.put-dictionary.new.0 _ c.before.before.put-dictionary.ensures
+    let start = c in
+    let put-lead = c.put_lead-code in
+    let put-stretch = c.put_stretch in
+    own_put start.args.area.now start.args.errors.now start.args.attributes.now start.args.i start.args.out.now start.requires.4 put-lead.new.out _ put-lead.ensures put-stretch.new.out _ put-stretch.ensures c.put_dictionary.new.out _ c.put_dictionary.ensures
 
-pub put-own-spec : {M : Type 1} → statement M
-put-own-spec =
+pub put_own_spec : {M : Type 1} → statement M
+put_own_spec =
     tie.close
     (tie.spec
-    mul-put-lead
-    mul-put-lead-2
-    shared-slice-read-put-lead
-    put-lead-requires
-    sub-put-stretch
-    part-put-stretch-start
-    part-put-stretch-end
-    mul-put-stretch
-    add-put-stretch
-    mul-put-stretch-2
-    shared-slice-read-put-stretch
-    mul-put-stretch-3
-    add-put-stretch-2
-    mul-put-stretch-4
-    shared-slice-read-put-stretch-2
-    put-stretch-requires
+    mul-put_lead
+    mul-put_lead-2
+    shared_slice_read-put_lead
+    put_lead-requires
+    sub-put_stretch
+    part-put_stretch-start
+    part-put_stretch-end
+    mul-put_stretch
+    add-put_stretch
+    mul-put_stretch-2
+    shared_slice_read-put_stretch
+    mul-put_stretch-3
+    add-put_stretch-2
+    mul-put_stretch-4
+    shared_slice_read-put_stretch-2
+    put_stretch-requires
     add-text
-    sub-put-dictionary
-    part-put-dictionary-start
-    part-put-dictionary-end
-    put-dictionary-requires
+    sub-put_dictionary
+    part-put_dictionary-start
+    part-put_dictionary-end
+    put_dictionary-requires
     add-result
     same_length
     returns)

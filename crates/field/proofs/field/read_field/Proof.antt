@@ -4,51 +4,51 @@ use borrow.Author.Rules.{rules}
 use Rattle.field.proofs.field.read_field.Statement.{statement}
 use Rattle.field.proofs.field.read_field.Tie as tie
 
-read-varint-requires : tie.Need-read-varint-requires
-read-varint-requires c κs = search rules
+read_varint-requires : tie.Need-read_varint-requires
+read_varint-requires c κs = search rules
 
-enum_told : tie.Need-enum-told
+enum_told : tie.Need-enum_told-1
 enum_told c = search rules
 
-enum-known-tag : tie.Need-enum-known-tag
-enum-known-tag c = search rules
+enum_known-tag : tie.Need-enum_known-tag
+enum_known-tag c = search rules
 
-returns : tie.Need-returns
-returns c = tag_large _ _ _ _ c.before.before.before.before.read-varint.ensures _ _ c.before.before.tag.given.1 c.if1.true
+returns : tie.Need-returns-then-tag-gt4294967295
+returns c = tag_large _ _ _ _ c.read_varint.ensures _ _ c.in-Whole.is c.if-tag-gt4294967295.true
 
-returns-2 : tie.Need-returns-2
-returns-2 c = tag_zero _ _ _ _ c.before.before.before.before.before.read-varint.ensures _ _ c.before.before.before.tag.given.1 c.before.if1.false c.if2.true
+returns-2 : tie.Need-returns-then-tag-lt8
+returns-2 c = tag_zero _ _ _ _ c.read_varint.ensures _ _ c.in-Whole.is c.if-tag-gt4294967295.false c.if-tag-lt8.true
 
-read-payload-requires : tie.Need-read-payload-requires
-read-payload-requires c κs = (next_within _ _ _ _ c.before.before.before.before.before.read-varint.ensures _ _ c.before.before.before.tag.given.1).1
+read_payload-requires : tie.Need-read_payload-requires
+read_payload-requires c κs = (next_within _ _ _ _ c.read_varint.ensures _ _ c.in-Whole.is).1
 
-enum-told-2 : tie.Need-enum-told-2
-enum-told-2 c = search rules
+enum_told-2 : tie.Need-enum_told-in-Cut
+enum_told-2 c = search rules
 
-enum-known-value : tie.Need-enum-known-value
-enum-known-value c = search rules
+enum_known-value : tie.Need-enum_known-value
+enum_known-value c = search rules
 
-returns-3 : tie.Need-returns-3
-returns-3 c = tag_cut _ _ _ _ c.before.before.read-varint.ensures c.enum_told.given.1
+returns-3 : tie.Need-returns-in-Broken
+returns-3 c = tag_cut _ _ _ _ c.read_varint.ensures c.in-Broken.is
 
-returns-4 : tie.Need-returns-4
-returns-4 c = field_cut _ _ _ _ c.before.before.before.before.before.before.before.before.read-varint.ensures _ _ c.before.before.before.before.before.before.tag.given.1 c.before.before.before.before.if1.false c.before.before.before.if2.false _ c.before.before.read-payload.ensures c.enum-told2.given.1
+returns-4 : tie.Need-returns-in-Cut
+returns-4 c = field_cut _ _ _ _ c.read_varint.ensures _ _ c.in-Whole.is c.if-tag-gt4294967295.false c.if-tag-lt8.false _ c.read_payload.ensures c.in-Cut.is
 
-returns-5 : tie.Need-returns-5
-returns-5 c = field_whole _ _ _ _ c.before.before.before.before.before.before.before.before.before.read-varint.ensures _ _ c.before.before.before.before.before.before.before.tag.given.1 c.before.before.before.before.before.if1.false c.before.before.before.before.if2.false _ c.before.before.before.read-payload.ensures _ _ _ c.before.value.given.1
+returns-5 : tie.Need-returns-in-Held
+returns-5 c = field_whole _ _ _ _ c.read_varint.ensures _ _ c.in-Whole.is c.if-tag-gt4294967295.false c.if-tag-lt8.false _ c.read_payload.ensures _ _ _ c.in-Held.is
 
-pub read-field-spec : {M : Type 1} → statement M
-read-field-spec =
+pub read_field_spec : {M : Type 1} → statement M
+read_field_spec =
     tie.close
     (tie.spec
-    read-varint-requires
+    read_varint-requires
     enum_told
-    enum-known-tag
+    enum_known-tag
     returns
     returns-2
-    read-payload-requires
-    enum-told-2
-    enum-known-value
+    read_payload-requires
+    enum_told-2
+    enum_known-value
     returns-3
     returns-4
     returns-5)

@@ -9,11 +9,11 @@ use Rattle.wire.proofs.kind.bits_of.Tie as tie
 flag-requires : tie.Need-flag-requires
 flag-requires c κs = search rules
 
-returns : tie.Need-returns
-returns c = c.flag.ensures ∙ rw (eq-eqb c.before.before.args.code boolean c.before.if1.true)
+returns : tie.Need-returns-then-code-eq-BOOLEAN
+returns c = c.flag.ensures ∙ rw (eq-eqb c.args.code boolean c.if-code-eq-BOOLEAN.true)
 
-returns-2 : tie.Need-returns-2
-returns-2 c = rw (ne_eqb c.before.args.code boolean c.if1.false)
+returns-2 : tie.Need-returns
+returns-2 c = rw (ne_eqb c.args.code boolean c.if-code-eq-BOOLEAN.false)
 
-pub bits-of-spec : {M : Type 1} → statement M
-bits-of-spec = tie.close (tie.spec flag-requires returns returns-2)
+pub bits_of_spec : {M : Type 1} → statement M
+bits_of_spec = tie.close (tie.spec flag-requires returns returns-2)

@@ -4,11 +4,11 @@ use Rattle.wire.specs.Layout.{null_mark}
 use Rattle.wire.proofs.layout.values_in.Statement.{statement}
 use Rattle.wire.proofs.layout.values_in.Tie as tie
 
-returns : tie.Need-returns
-returns c = rw (eq-eqb c.before.args.count null_mark c.if1.true)
+returns : tie.Need-returns-then-count-eq-NULL_ROW_MARKER
+returns c = rw (eq-eqb c.args.count null_mark c.if-count-eq-NULL_ROW_MARKER.true)
 
-returns-2 : tie.Need-returns-2
-returns-2 c = rw (ne_eqb c.before.args.count null_mark c.if1.false)
+returns-2 : tie.Need-returns
+returns-2 c = rw (ne_eqb c.args.count null_mark c.if-count-eq-NULL_ROW_MARKER.false)
 
-pub values-in-spec : {M : Type 1} → statement M
-values-in-spec = tie.close (tie.spec returns returns-2)
+pub values_in_spec : {M : Type 1} → statement M
+values_in_spec = tie.close (tie.spec returns returns-2)

@@ -5,14 +5,14 @@ use borrow.Author.Rules.{rules}
 use Rattle.wire_check.proofs.size.cap.Statement.{statement}
 use Rattle.wire_check.proofs.size.cap.Tie as tie
 
-returns : tie.Need-returns
-returns c = rw (lt-ltb _ _ c.if1.true)
+returns : tie.Need-returns-then-length-gt4294967295
+returns c = rw (lt-ltb _ _ c.if-length-gt4294967295.true)
 
-cast-result : tie.Need-overflow-cast-result
+cast-result : tie.Need-overflow_cast-result
 cast-result c = search rules
 
-returns-2 : tie.Need-returns-2
-returns-2 c = rw (le-ltb _ _ c.if1.false)
+returns-2 : tie.Need-returns
+returns-2 c = rw (le-ltb _ _ c.if-length-gt4294967295.false)
 
-pub cap-spec : {M : Type 1} → statement M
-cap-spec = tie.close (tie.spec returns cast-result returns-2)
+pub cap_spec : {M : Type 1} → statement M
+cap_spec = tie.close (tie.spec returns cast-result returns-2)

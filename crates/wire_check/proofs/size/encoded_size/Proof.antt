@@ -5,39 +5,39 @@ use borrow.Author.Rules.{rules}
 use Rattle.wire_check.proofs.size.encoded_size.Statement.{statement}
 use Rattle.wire_check.proofs.size.encoded_size.Tie as tie
 
-check-tables-requires : tie.Need-check-tables-requires
-check-tables-requires c κs = search rules
+check_tables-requires : tie.Need-check_tables-requires
+check_tables-requires c κs = search rules
 
-enum-known-refusal : tie.Need-enum-known-refusal
-enum-known-refusal c = search rules
+enum_known-refusal : tie.Need-enum_known-refusal
+enum_known-refusal c = search rules
 
-enum_told : tie.Need-enum-told
+enum_told : tie.Need-enum_told-1
 enum_told c = search rules
 
-measure-rows-requires : tie.Need-measure-rows-requires
-measure-rows-requires c κs =
-    let start = c.before.before.before.before.before.before in
-    whole_sound start.args.area.now start.args.rows.now start.args.values.now c.before.before.check-tables.result c.before.before.check-tables.ensures c.enum_told.given.1
+measure_rows-requires : tie.Need-measure_rows-requires
+measure_rows-requires c κs =
+    let start = c in
+    whole_sound start.args.area.now start.args.rows.now start.args.values.now c.check_tables.result c.check_tables.ensures c.in-Passed.is
 
-returns : tie.Need-returns
+returns : tie.Need-returns-in-Failed
 returns c =
-    let start = c.before.before.before.before.before.before.before in
-    let check-tables = c.before.before.before.check-tables in
-    whole_refused start.args.area.now start.args.rows.now start.args.values.now check-tables.result check-tables.ensures _ c.before.refusal.given.1
+    let start = c in
+    let check-tables = c.check_tables in
+    whole_refused start.args.area.now start.args.rows.now start.args.values.now check-tables.result check-tables.ensures _ c.in-Failed.is
 
-returns-2 : tie.Need-returns-2
+returns-2 : tie.Need-returns-in-Passed
 returns-2 c =
-    let start = c.before.before.before.before.before.before.before in
-    let check-tables = c.before.before.before.check-tables in
-    whole_measured start.args.area.now start.args.rows.now start.args.values.now check-tables.result check-tables.ensures c.before.enum_told.given.1 c.measure-rows.result c.measure-rows.ensures
+    let start = c in
+    let check-tables = c.check_tables in
+    whole_measured start.args.area.now start.args.rows.now start.args.values.now check-tables.result check-tables.ensures c.in-Passed.is c.measure_rows.result c.measure_rows.ensures
 
-pub encoded-size-spec : {M : Type 1} → statement M
-encoded-size-spec =
+pub encoded_size_spec : {M : Type 1} → statement M
+encoded_size_spec =
     tie.close
     (tie.spec
-    check-tables-requires
-    enum-known-refusal
+    check_tables-requires
+    enum_known-refusal
     enum_told
-    measure-rows-requires
+    measure_rows-requires
     returns
     returns-2)

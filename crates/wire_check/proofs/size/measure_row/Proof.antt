@@ -5,51 +5,51 @@ use borrow.Author.Rules.{rules}
 use Rattle.wire_check.proofs.size.measure_row.Statement.{statement}
 use Rattle.wire_check.proofs.size.measure_row.Tie as tie
 
-add-to-rowset-size-requires : tie.Need-add-to-rowset-size-requires
-add-to-rowset-size-requires c κs = search rules
+add_to_rowset_size-requires : tie.Need-add_to_rowset_size-requires
+add_to_rowset_size-requires c κs = search rules
 
-enum-known-refusal : tie.Need-enum-known-refusal
-enum-known-refusal c = search rules
+enum_known-refusal : tie.Need-enum_known-refusal
+enum_known-refusal c = search rules
 
-enum-known-size : tie.Need-enum-known-size
-enum-known-size c = search rules
+enum_known-size : tie.Need-enum_known-size
+enum_known-size c = search rules
 
-values-in-requires : tie.Need-values-in-requires
-values-in-requires c κs = search rules
+values_in-requires : tie.Need-values_in-n-requires
+values_in-requires c κs = search rules
 
-returns : tie.Need-returns
+returns : tie.Need-returns-then-n-gt-MAX_VALUES_PER_ROW
 returns c =
-    let start = c.before.before.before.before.before.before.before in
-    let add-to-rowset-size = c.before.before.before.before.before.add-to-rowset-size in
-    row_many start.args.values.now start.args.count start.args.row start.args.k start.args.before add-to-rowset-size.result add-to-rowset-size.ensures _ c.before.before.before.size.given.1 _ c.before.values-in.ensures c.if1.true
+    let start = c in
+    let add-to-rowset-size = c.add_to_rowset_size in
+    row_many start.args.values.now start.args.count start.args.row start.args.k start.args.before add-to-rowset-size.result add-to-rowset-size.ensures _ c.in-Size.is _ c.values_in-n.ensures c.if-n-gt-MAX_VALUES_PER_ROW.true
 
-measure-values-requires : tie.Need-measure-values-requires
-measure-values-requires c κs =
-    let start = c.before.before.before.before.before.before.before in
-    let add-to-rowset-size = c.before.before.before.before.before.add-to-rowset-size in
-    row_within start.args.values.now start.args.count start.args.row start.args.k start.args.before add-to-rowset-size.result add-to-rowset-size.ensures _ c.before.before.before.size.given.1 _ c.before.values-in.ensures start.requires.0
+measure_values-requires : tie.Need-measure_values-requires
+measure_values-requires c κs =
+    let start = c in
+    let add-to-rowset-size = c.add_to_rowset_size in
+    row_within start.args.values.now start.args.count start.args.row start.args.k start.args.before add-to-rowset-size.result add-to-rowset-size.ensures _ c.in-Size.is _ c.values_in-n.ensures start.requires.0
 
-returns-2 : tie.Need-returns-2
+returns-2 : tie.Need-returns-in-Refused
 returns-2 c =
-    let start = c.before.before.before.before.before in
-    let add-to-rowset-size = c.before.before.before.add-to-rowset-size in
-    row_large start.args.values.now start.args.count start.args.row start.args.k start.args.before add-to-rowset-size.result add-to-rowset-size.ensures _ c.before.refusal.given.1
+    let start = c in
+    let add-to-rowset-size = c.add_to_rowset_size in
+    row_large start.args.values.now start.args.count start.args.row start.args.k start.args.before add-to-rowset-size.result add-to-rowset-size.ensures _ c.in-Refused.is
 
-returns-3 : tie.Need-returns-3
+returns-3 : tie.Need-returns-else-n-gt-MAX_VALUES_PER_ROW
 returns-3 c =
-    let start = c.before.before.before.before.before.before.before.before in
-    let add-to-rowset-size = c.before.before.before.before.before.before.add-to-rowset-size in
-    row_values start.args.values.now start.args.count start.args.row start.args.k start.args.before add-to-rowset-size.result add-to-rowset-size.ensures _ c.before.before.before.before.size.given.1 _ c.before.before.values-in.ensures c.before.if1.false c.measure-values.result c.measure-values.ensures
+    let start = c in
+    let add-to-rowset-size = c.add_to_rowset_size in
+    row_values start.args.values.now start.args.count start.args.row start.args.k start.args.before add-to-rowset-size.result add-to-rowset-size.ensures _ c.in-Size.is _ c.values_in-n.ensures c.if-n-gt-MAX_VALUES_PER_ROW.false c.measure_values.result c.measure_values.ensures
 
-pub measure-row-spec : {M : Type 1} → statement M
-measure-row-spec =
+pub measure_row_spec : {M : Type 1} → statement M
+measure_row_spec =
     tie.close
     (tie.spec
-    add-to-rowset-size-requires
-    enum-known-refusal
-    enum-known-size
-    values-in-requires
+    add_to_rowset_size-requires
+    enum_known-refusal
+    enum_known-size
+    values_in-requires
     returns
-    measure-values-requires
+    measure_values-requires
     returns-2
     returns-3)

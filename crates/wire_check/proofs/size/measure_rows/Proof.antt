@@ -8,72 +8,72 @@ use Rattle.wire_check.proofs.WalkLaws.{RowsLeft, rows_begin, rows_stop, row_fits
 use Rattle.wire_check.proofs.size.measure_rows.Statement.{statement}
 use Rattle.wire_check.proofs.size.measure_rows.Tie as tie
 
-abbrev invariant-loop : tie.invariant-loop
+abbrev invariant-loop : tie.invariant-loop-i
 invariant-loop rows values size₀ k₀ i₀ size k i = RowsLeft rows values size k i
 
-abbrev decreases-loop : tie.decreases-loop
+abbrev decreases-loop : tie.decreases-loop-i
 decreases-loop rows values size₀ k₀ i₀ size k i = length rows - i
 
-loop-holds : tie.Need-loop-init invariant-loop decreases-loop
-loop-holds c = rows_begin _ _ c.before.before.requires
+loop-holds : tie.Need-loop-i-init invariant-loop decreases-loop
+loop-holds c = rows_begin _ _ c.requires
 
-mul-count : tie.Need-overflow-mul-count invariant-loop decreases-loop
+mul-count : tie.Need-offset_bounds-rows-i invariant-loop decreases-loop
 mul-count c = search rules
 
-shared-slice-read-count : tie.Need-shared-slice-read-count invariant-loop decreases-loop
-shared-slice-read-count c = search rules
+shared_slice_read-count : tie.Need-bounds-rows-i invariant-loop decreases-loop
+shared_slice_read-count c = search rules
 
-measure-row-requires : tie.Need-measure-row-requires invariant-loop decreases-loop
-measure-row-requires c κs = (row_fits _ _ _ _ _ c.before.before.loop.invariant c.before.loop-test.true, c.before.before.loop.invariant.1)
+measure_row-requires : tie.Need-measure_row-requires invariant-loop decreases-loop
+measure_row-requires c κs = (row_fits _ _ _ _ _ c.loop-i.invariant c.loop-i-test.true, c.loop-i.invariant.1)
 
-enum-known-refusal : tie.Need-enum-known-refusal invariant-loop decreases-loop
-enum-known-refusal c = search rules
+enum_known-refusal : tie.Need-enum_known-refusal invariant-loop decreases-loop
+enum_known-refusal c = search rules
 
-returns : tie.Need-returns invariant-loop decreases-loop
+returns : tie.Need-returns-in-Refused invariant-loop decreases-loop
 returns c =
-    let measure-row = c.before.before.before.measure-row in
-    rows_stop _ _ _ _ _ c.before.before.before.before.before.before.loop.invariant c.before.before.before.before.before.loop-test.true measure-row.result measure-row.ensures _ c.before.refusal.given.1
+    let measure-row = c.measure_row in
+    rows_stop _ _ _ _ _ c.loop-i.invariant c.loop-i-test.true measure-row.result measure-row.ensures _ c.in-Refused.is
 
-enum-known-sum : tie.Need-enum-known-sum invariant-loop decreases-loop
-enum-known-sum c = search rules
+enum_known-sum : tie.Need-enum_known-sum invariant-loop decreases-loop
+enum_known-sum c = search rules
 
-values-in-requires : tie.Need-values-in-requires invariant-loop decreases-loop
-values-in-requires c κs = search rules
+values_in-requires : tie.Need-values_in-requires invariant-loop decreases-loop
+values_in-requires c κs = search rules
 
-mul-k : tie.Need-overflow-mul-k invariant-loop decreases-loop
-mul-k c = omega (arith, row_fits _ _ _ _ _ c.before.before.before.before.before.before.before.loop.invariant c.before.before.before.before.before.before.loop-test.true, c.values-in.ensures)
+mul-k : tie.Need-overflow_mul-k invariant-loop decreases-loop
+mul-k c = omega (arith, row_fits _ _ _ _ _ c.loop-i.invariant c.loop-i-test.true, c.values_in.ensures)
 
-add-k : tie.Need-overflow-add-k invariant-loop decreases-loop
-add-k c = omega (arith, row_fits _ _ _ _ _ c.before.before.before.before.before.before.before.loop.invariant c.before.before.before.before.before.before.loop-test.true, c.values-in.ensures)
+add-k : tie.Need-overflow_add-k invariant-loop decreases-loop
+add-k c = omega (arith, row_fits _ _ _ _ _ c.loop-i.invariant c.loop-i-test.true, c.values_in.ensures)
 
-add-i : tie.Need-overflow-add-i invariant-loop decreases-loop
+add-i : tie.Need-overflow_add-i invariant-loop decreases-loop
 add-i c = omega arith
 
-loop-less : tie.Need-loop-smaller invariant-loop decreases-loop
+loop-less : tie.Need-loop-i-smaller invariant-loop decreases-loop
 loop-less c = omega arith
 
-loop-again : tie.Need-loop-preserved invariant-loop decreases-loop
+loop-again : tie.Need-loop-i-preserved invariant-loop decreases-loop
 loop-again c =
-    let measure-row = c.before.before.before.before.measure-row in
-    rows_go _ _ _ _ _ c.before.before.before.before.before.before.before.loop.invariant c.before.before.before.before.before.before.loop-test.true measure-row.result measure-row.ensures _ c.before.before.sum.given.1 _ c.values-in.ensures
+    let measure-row = c.measure_row in
+    rows_go _ _ _ _ _ c.loop-i.invariant c.loop-i-test.true measure-row.result measure-row.ensures _ c.in-Size.is _ c.values_in.ensures
 
-returns-2 : tie.Need-returns-2 invariant-loop decreases-loop
-returns-2 c = rows_end _ _ _ _ _ c.before.loop.invariant c.loop-test.false
+returns-2 : tie.Need-returns invariant-loop decreases-loop
+returns-2 c = rows_end _ _ _ _ _ c.loop-i.invariant c.loop-i-test.false
 
-pub measure-rows-spec : {M : Type 1} → statement M
-measure-rows-spec =
+pub measure_rows_spec : {M : Type 1} → statement M
+measure_rows_spec =
     tie.close
     (tie.spec
     invariant-loop
     decreases-loop
     loop-holds
     mul-count
-    shared-slice-read-count
-    measure-row-requires
-    enum-known-refusal
+    shared_slice_read-count
+    measure_row-requires
+    enum_known-refusal
     returns
-    enum-known-sum
-    values-in-requires
+    enum_known-sum
+    values_in-requires
     mul-k
     add-k
     add-i

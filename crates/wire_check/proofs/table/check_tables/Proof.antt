@@ -7,38 +7,38 @@ use borrow.Author.Rules.{rules}
 use Rattle.wire_check.proofs.table.check_tables.Statement.{statement}
 use Rattle.wire_check.proofs.table.check_tables.Tie as tie
 
-returns : tie.Need-returns
+returns : tie.Need-returns-then-values-ne0
 returns c =
-    let start = c.before.before.before.before in
-    rule_1 start.args.area.now start.args.rows.now start.args.values.now c.if1.true
+    let start = c in
+    rule_1 start.args.area.now start.args.rows.now start.args.values.now c.if-values-ne0.true
 
-sums-to-requires : tie.Need-sums-to-requires
-sums-to-requires c κs = search rules
+sums_to-requires : tie.Need-sums_to-requires
+sums_to-requires c κs = search rules
 
-returns-2 : tie.Need-returns-2
+returns-2 : tie.Need-returns-then-not-sums_to
 returns-2 c =
-    let start = c.before.before.before.before.before.before in
-    rule_2 start.args.area.now start.args.rows.now start.args.values.now c.before.before.if1.false (sym c.before.sums-to.ensures ∙ not-true _ c.if2.true)
+    let start = c in
+    rule_2 start.args.area.now start.args.rows.now start.args.values.now c.if-values-ne0.false (sym c.sums_to.ensures ∙ c.if-not-sums_to.true)
 
-first-bad-requires : tie.Need-first-bad-requires
-first-bad-requires c κs = search rules
+first_bad-requires : tie.Need-first_bad-bad-requires
+first_bad-requires c κs = search rules
 
-returns-3 : tie.Need-returns-3
+returns-3 : tie.Need-returns-then-bad-entries
 returns-3 c =
-    let start = c.before.before.before.before.before.before.before.before in
-    rule_3 start.args.area.now start.args.rows.now start.args.values.now c.before.before.before.before.if1.false (sym c.before.before.before.sums-to.ensures ∙ not-false _ c.before.before.if2.false) _ c.before.first-bad.ensures c.if3.true
+    let start = c in
+    rule_3 start.args.area.now start.args.rows.now start.args.values.now c.if-values-ne0.false (sym c.sums_to.ensures ∙ c.if-not-sums_to.false) _ c.first_bad-bad.ensures c.if-bad-entries.true
 
-returns-4 : tie.Need-returns-4
+returns-4 : tie.Need-returns-then-rows-gt-MAX_ROWS_PER_ROWSET
 returns-4 c =
-    let start = c.before.before.before.before.before.before.before.before.before in
-    many_rows start.args.area.now start.args.rows.now start.args.values.now c.before.before.before.before.before.if1.false (sym c.before.before.before.before.sums-to.ensures ∙ not-false _ c.before.before.before.if2.false) _ c.before.before.first-bad.ensures c.before.if3.false c.if4.true
+    let start = c in
+    many_rows start.args.area.now start.args.rows.now start.args.values.now c.if-values-ne0.false (sym c.sums_to.ensures ∙ c.if-not-sums_to.false) _ c.first_bad-bad.ensures c.if-bad-entries.false c.if-rows-gt-MAX_ROWS_PER_ROWSET.true
 
-returns-5 : tie.Need-returns-5
+returns-5 : tie.Need-returns
 returns-5 c =
-    let start = c.before.before.before.before.before.before.before.before.before in
-    tables_pass start.args.area.now start.args.rows.now start.args.values.now c.before.before.before.before.before.if1.false (sym c.before.before.before.before.sums-to.ensures ∙ not-false _ c.before.before.before.if2.false) _ c.before.before.first-bad.ensures c.before.if3.false c.if4.false
+    let start = c in
+    tables_pass start.args.area.now start.args.rows.now start.args.values.now c.if-values-ne0.false (sym c.sums_to.ensures ∙ c.if-not-sums_to.false) _ c.first_bad-bad.ensures c.if-bad-entries.false c.if-rows-gt-MAX_ROWS_PER_ROWSET.false
 
-pub check-tables-spec : {M : Type 1} → statement M
-check-tables-spec =
+pub check_tables_spec : {M : Type 1} → statement M
+check_tables_spec =
     tie.close
-    (tie.spec returns sums-to-requires returns-2 first-bad-requires returns-3 returns-4 returns-5)
+    (tie.spec returns sums_to-requires returns-2 first_bad-requires returns-3 returns-4 returns-5)

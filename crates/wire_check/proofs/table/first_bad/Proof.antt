@@ -9,45 +9,45 @@ use Rattle.wire_check.proofs.table.first_bad.Statement.{statement}
 use Rattle.wire_check.proofs.table.first_bad.Tie as tie
 use Rattle.wire.specs.Layout.{entry_words}
 
-abbrev invariant-loop : tie.invariant-loop
+abbrev invariant-loop : tie.invariant-loop-i
 invariant-loop area values n i₀ i = (n ≡ length values / entry_words) × (i ≤ n) × Seeks (length area) values i
 
-abbrev decreases-loop : tie.decreases-loop
+abbrev decreases-loop : tie.decreases-loop-i
 decreases-loop area values n i₀ i = n - i
 
-loop-holds : tie.Need-loop-init invariant-loop decreases-loop
+loop-holds : tie.Need-loop-i-init invariant-loop decreases-loop
 loop-holds c = (refl, omega arith, seek_begin _ _)
 
-mul-bad-entry : tie.Need-overflow-mul-bad-entry invariant-loop decreases-loop
-mul-bad-entry c = omega arith
+mul-bad_entry : tie.Need-overflow_mul-i invariant-loop decreases-loop
+mul-bad_entry c = omega arith
 
-bad-entry-requires : tie.Need-bad-entry-requires invariant-loop decreases-loop
-bad-entry-requires c κs = omega arith
+bad_entry-requires : tie.Need-bad_entry-requires invariant-loop decreases-loop
+bad_entry-requires c κs = omega arith
 
-returns : tie.Need-returns invariant-loop decreases-loop
-returns c = seek_hit _ _ _ c.before.before.before.loop.invariant.2 _ c.before.bad-entry.ensures (omega arith) c.if1.true
+returns : tie.Need-returns-then-bad_entry invariant-loop decreases-loop
+returns c = seek_hit _ _ _ c.loop-i.invariant.2 _ c.bad_entry.ensures (omega arith) c.if-bad_entry.true
 
-add-i : tie.Need-overflow-add-i invariant-loop decreases-loop
+add-i : tie.Need-overflow_add-i invariant-loop decreases-loop
 add-i c = omega arith
 
-loop-less : tie.Need-loop-smaller invariant-loop decreases-loop
+loop-less : tie.Need-loop-i-smaller invariant-loop decreases-loop
 loop-less c = omega arith
 
-loop-again : tie.Need-loop-preserved invariant-loop decreases-loop
-loop-again c = (omega arith, omega arith, seek_miss _ _ _ c.before.before.before.loop.invariant.2 _ c.before.bad-entry.ensures (omega arith) c.if1.false)
+loop-again : tie.Need-loop-i-preserved invariant-loop decreases-loop
+loop-again c = (omega arith, omega arith, seek_miss _ _ _ c.loop-i.invariant.2 _ c.bad_entry.ensures (omega arith) c.if-bad_entry.false)
 
-returns-2 : tie.Need-returns-2 invariant-loop decreases-loop
-returns-2 c = seek_end _ _ _ c.before.loop.invariant.2 (omega arith) (omega arith)
+returns-2 : tie.Need-returns invariant-loop decreases-loop
+returns-2 c = seek_end _ _ _ c.loop-i.invariant.2 (omega arith) (omega arith)
 
-pub first-bad-spec : {M : Type 1} → statement M
-first-bad-spec =
+pub first_bad_spec : {M : Type 1} → statement M
+first_bad_spec =
     tie.close
     (tie.spec
     invariant-loop
     decreases-loop
     loop-holds
-    mul-bad-entry
-    bad-entry-requires
+    mul-bad_entry
+    bad_entry-requires
     returns
     add-i
     loop-less

@@ -24,14 +24,10 @@ sub-padding : tie.Need-overflow-sub-padding
 sub-padding c = search rules
 
 sub-write-zeros : tie.Need-overflow-sub-write-zeros
-sub-write-zeros c =
-    let start = c.before.before.before.before.before.before.before in
-    blob_within start.args.area.now start.args.out.now start.args.offset start.args.length start.requires.0 start.requires.1 c.before.before.write_bytes.new.0 c.before.before.write_bytes.ensures
+sub-write-zeros c = blob_within c.before.before.before.before.before.before.before.args.area.now c.before.before.before.before.before.before.before.args.out.now c.before.before.before.before.before.before.before.args.offset c.before.before.before.before.before.before.before.args.length c.before.before.before.before.before.before.before.requires.0 c.before.before.before.before.before.before.before.requires.1 c.before.before.write_bytes.new.0 c.before.before.write_bytes.ensures
 
 part-write-zeros-start : tie.Need-slice-bounds-write-zeros-start
-part-write-zeros-start c =
-    let start = c.before.before.before.before.before.before.before in
-    blob_within start.args.area.now start.args.out.now start.args.offset start.args.length start.requires.0 start.requires.1 c.before.before.write_bytes.new.0 c.before.before.write_bytes.ensures
+part-write-zeros-start c = blob_within c.before.before.before.before.before.before.before.args.area.now c.before.before.before.before.before.before.before.args.out.now c.before.before.before.before.before.before.before.args.offset c.before.before.before.before.before.before.before.args.length c.before.before.before.before.before.before.before.requires.0 c.before.before.before.before.before.before.before.requires.1 c.before.before.write_bytes.new.0 c.before.before.write_bytes.ensures
 
 part-write-zeros-end : tie.Need-slice-bounds-write-zeros-end
 part-write-zeros-end c = search rules
@@ -46,10 +42,7 @@ same_length : tie.Need-same-length
 same_length c = search rules
 
 returns : tie.Need-returns
-returns c =
-    let start = c.before.before.before.before.before.before.before.before.before.before.before in
-    let write_bytes = c.before.before.before.before.before.before.write_bytes in
-    blob_puts start.args.area.now start.args.out.now start.args.offset start.args.length start.requires.0 start.requires.1 write_bytes.new.0 write_bytes.ensures c.before.before.write-zeros.new.0 c.before.before.write-zeros.ensures
+returns c = blob_puts c.before.before.before.before.before.before.before.before.before.before.before.args.area.now c.before.before.before.before.before.before.before.before.before.before.before.args.out.now c.before.before.before.before.before.before.before.before.before.before.before.args.offset c.before.before.before.before.before.before.before.before.before.before.before.args.length c.before.before.before.before.before.before.before.before.before.before.before.requires.0 c.before.before.before.before.before.before.before.before.before.before.before.requires.1 c.before.before.before.before.before.before.write_bytes.new.0 c.before.before.before.before.before.before.write_bytes.ensures c.before.before.write-zeros.new.0 c.before.before.write-zeros.ensures
 
 pub write-blob-spec : {M : Type 1} → statement M
 write-blob-spec =

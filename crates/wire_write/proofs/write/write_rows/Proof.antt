@@ -17,9 +17,7 @@ abbrev decreases-loop : tie.decreases-loop
 decreases-loop area rows values out₀ at₀ k₀ i₀ out at k i = length rows - i
 
 loop-holds : tie.Need-loop-init invariant-loop decreases-loop
-loop-holds c =
-    let start = c.before.before.before.before in
-    rows_start _ _ _ _ start.requires.1 start.requires.2
+loop-holds c = rows_start _ _ _ _ c.before.before.before.before.requires.1 c.before.before.before.before.requires.2
 
 mul-count : tie.Need-overflow-mul-count invariant-loop decreases-loop
 mul-count c = search rules
@@ -37,9 +35,7 @@ part-write-row-end : tie.Need-slice-bounds-write-row-end invariant-loop decrease
 part-write-row-end c = search rules
 
 write-row-requires : tie.Need-write-row-requires invariant-loop decreases-loop
-write-row-requires c κs =
-    let turn = c.before.before.before in
-    (c.before.before.before.before.before.before.before.before.requires.0, turn.loop.invariant.0, row_fits _ _ _ _ _ _ _ _ turn.loop.invariant c.before.before.loop-test.true, row_room _ _ _ _ _ _ _ _ turn.loop.invariant c.before.before.loop-test.true)
+write-row-requires c κs = (c.before.before.before.before.before.before.before.before.requires.0, c.before.before.before.loop.invariant.0, row_fits _ _ _ _ _ _ _ _ c.before.before.before.loop.invariant c.before.before.loop-test.true, row_room _ _ _ _ _ _ _ _ c.before.before.before.loop.invariant c.before.before.loop-test.true)
 
 add_at : tie.Need-overflow-add-at invariant-loop decreases-loop
 add_at c = omega (arith, room_left (rows_step _ _ _ _ _ _ _ _ c.before.before.before.before.before.before.loop.invariant c.before.before.before.before.before.loop-test.true c.before.before.write-row.new.1.1.1.1.0 c.before.before.write-row.result c.before.before.write-row.ensures _ refl).2, c.before.before.before.before.before.before.before.before.before.before.before.well-formed)
@@ -60,9 +56,7 @@ loop-less : tie.Need-loop-smaller invariant-loop decreases-loop
 loop-less c = omega arith
 
 loop-again : tie.Need-loop-preserved invariant-loop decreases-loop
-loop-again c =
-    let write-row = c.before.before.before.write-row in
-    rows_step _ _ _ _ _ _ _ _ c.before.before.before.before.before.before.before.loop.invariant c.before.before.before.before.before.before.loop-test.true write-row.new.1.1.1.1.0 write-row.result write-row.ensures _ c.values-in.ensures
+loop-again c = rows_step _ _ _ _ _ _ _ _ c.before.before.before.before.before.before.before.loop.invariant c.before.before.before.before.before.before.loop-test.true c.before.before.before.write-row.new.1.1.1.1.0 c.before.before.before.write-row.result c.before.before.before.write-row.ensures _ c.values-in.ensures
 
 same_length : tie.Need-same-length invariant-loop decreases-loop
 same_length c = length_now c.before.loop.invariant.2

@@ -30,17 +30,13 @@ enum-told-3 c = search rules
 
 sub-write-u64 : tie.Need-overflow-sub-write-u64
 sub-write-u64 c =
-    let header' = c.before.before.before.before.before.before.header in
-    let write-u64 = c.before.before.before.before.before.write-u64 in
     let start = c.before.before.before.before.before.before.before.before.before.before in
-    value_within start.args.area.now start.args.id start.args.kind start.args.aggregate start.args.bits start.args.length start.requires.0 start.args.out.now start.requires.1 header'.result header'.ensures write-u64.new.0 write-u64.ensures
+    value_within start.args.area.now start.args.id start.args.kind start.args.aggregate start.args.bits start.args.length start.requires.0 start.args.out.now start.requires.1 c.before.before.before.before.before.before.header.result c.before.before.before.before.before.before.header.ensures c.before.before.before.before.before.write-u64.new.0 c.before.before.before.before.before.write-u64.ensures
 
 part-write-u64-start : tie.Need-slice-bounds-write-u64-start
 part-write-u64-start c =
-    let header' = c.before.before.before.before.before.before.header in
-    let write-u64 = c.before.before.before.before.before.write-u64 in
     let start = c.before.before.before.before.before.before.before.before.before.before in
-    value_within start.args.area.now start.args.id start.args.kind start.args.aggregate start.args.bits start.args.length start.requires.0 start.args.out.now start.requires.1 header'.result header'.ensures write-u64.new.0 write-u64.ensures
+    value_within start.args.area.now start.args.id start.args.kind start.args.aggregate start.args.bits start.args.length start.requires.0 start.args.out.now start.requires.1 c.before.before.before.before.before.before.header.result c.before.before.before.before.before.before.header.ensures c.before.before.before.before.before.write-u64.new.0 c.before.before.before.before.before.write-u64.ensures
 
 part-write-u64-end : tie.Need-slice-bounds-write-u64-end
 part-write-u64-end c = search rules
@@ -56,47 +52,37 @@ enum-told-4 c = search rules
 
 sub-write-blob : tie.Need-overflow-sub-write-blob
 sub-write-blob c =
-    let header' = c.before.before.before.before.before.before.header in
-    let write-u64 = c.before.before.before.before.before.write-u64 in
     let start = c.before.before.before.before.before.before.before.before.before.before in
-    value_within start.args.area.now start.args.id start.args.kind start.args.aggregate start.args.bits start.args.length start.requires.0 start.args.out.now start.requires.1 header'.result header'.ensures write-u64.new.0 write-u64.ensures
+    value_within start.args.area.now start.args.id start.args.kind start.args.aggregate start.args.bits start.args.length start.requires.0 start.args.out.now start.requires.1 c.before.before.before.before.before.before.header.result c.before.before.before.before.before.before.header.ensures c.before.before.before.before.before.write-u64.new.0 c.before.before.before.before.before.write-u64.ensures
 
 part-write-blob-start : tie.Need-slice-bounds-write-blob-start
 part-write-blob-start c =
-    let header' = c.before.before.before.before.before.before.header in
-    let write-u64 = c.before.before.before.before.before.write-u64 in
     let start = c.before.before.before.before.before.before.before.before.before.before in
-    value_within start.args.area.now start.args.id start.args.kind start.args.aggregate start.args.bits start.args.length start.requires.0 start.args.out.now start.requires.1 header'.result header'.ensures write-u64.new.0 write-u64.ensures
+    value_within start.args.area.now start.args.id start.args.kind start.args.aggregate start.args.bits start.args.length start.requires.0 start.args.out.now start.requires.1 c.before.before.before.before.before.before.header.result c.before.before.before.before.before.before.header.ensures c.before.before.before.before.before.write-u64.new.0 c.before.before.before.before.before.write-u64.ensures
 
 part-write-blob-end : tie.Need-slice-bounds-write-blob-end
 part-write-blob-end c = search rules
 
 write-blob-requires : tie.Need-write-blob-requires
 write-blob-requires c κs =
-    let header' = c.before.before.before.before.before.before.before.header in
-    let write-u64 = c.before.before.before.before.before.before.write-u64 in
     let start = c.before.before.before.before.before.before.before.before.before.before.before in
     let blob = kind_blob start.args.kind _ c.before.before.before.kind-of.ensures c.before.enum-told4.given.1 in
-    blob_room start.args.area.now start.args.id start.args.kind start.args.aggregate start.args.bits start.args.length start.requires.0 start.args.out.now start.requires.1 header'.result header'.ensures write-u64.new.0 write-u64.ensures (omega (arith, blob.0))
+    blob_room start.args.area.now start.args.id start.args.kind start.args.aggregate start.args.bits start.args.length start.requires.0 start.args.out.now start.requires.1 c.before.before.before.before.before.before.before.header.result c.before.before.before.before.before.before.before.header.ensures c.before.before.before.before.before.before.write-u64.new.0 c.before.before.before.before.before.before.write-u64.ensures (omega (arith, blob.0))
 
 add-result-2 : tie.Need-overflow-add-result-2
 add-result-2 c =
-    let header' = c.before.before.before.before.before.before.before.before.before.before.header in
-    let write-u64 = c.before.before.before.before.before.before.before.before.before.write-u64 in
     let start = c.before.before.before.before.before.before.before.before.before.before.before.before.before.before in
     let blob = kind_blob start.args.kind _ c.before.before.before.before.before.before.kind-of.ensures c.before.before.before.before.enum-told4.given.1 in
-    omega (arith, (value_puts start.args.area.now start.args.id start.args.kind start.args.aggregate start.args.bits start.args.length start.requires.0 start.args.out.now start.requires.1 header'.result header'.ensures write-u64.new.0 write-u64.ensures (omega (arith, blob.0)) c.before.before.write-blob.new.1.1.1.0 c.before.before.write-blob.result c.before.before.write-blob.ensures).0, start.requires.1, start.well-formed)
+    omega (arith, (value_puts start.args.area.now start.args.id start.args.kind start.args.aggregate start.args.bits start.args.length start.requires.0 start.args.out.now start.requires.1 c.before.before.before.before.before.before.before.before.before.before.header.result c.before.before.before.before.before.before.before.before.before.before.header.ensures c.before.before.before.before.before.before.before.before.before.write-u64.new.0 c.before.before.before.before.before.before.before.before.before.write-u64.ensures (omega (arith, blob.0)) c.before.before.write-blob.new.1.1.1.0 c.before.before.write-blob.result c.before.before.write-blob.ensures).0, start.requires.1, start.well-formed)
 
 same_length : tie.Need-same-length
 same_length c = search rules
 
 returns : tie.Need-returns
 returns c =
-    let header' = c.before.before.before.before.before.before.header in
-    let write-u64 = c.before.before.before.before.before.write-u64 in
     let start = c.before.before.before.before.before.before.before.before.before.before in
     let null = kind_null start.args.kind _ c.before.before.kind-of.ensures c.enum_told.given.1 in
-    null_puts start.args.area.now start.args.id start.args.kind start.args.aggregate start.args.bits start.args.length start.requires.0 start.args.out.now start.requires.1 header'.result header'.ensures write-u64.new.0 write-u64.ensures (omega (arith, null))
+    null_puts start.args.area.now start.args.id start.args.kind start.args.aggregate start.args.bits start.args.length start.requires.0 start.args.out.now start.requires.1 c.before.before.before.before.before.before.header.result c.before.before.before.before.before.before.header.ensures c.before.before.before.before.before.write-u64.new.0 c.before.before.before.before.before.write-u64.ensures (omega (arith, null))
 
 same-length-2 : tie.Need-same-length-2
 same-length-2 c = search rules
@@ -111,22 +97,18 @@ same-length-3 c = search rules
 
 returns-3 : tie.Need-returns-3
 returns-3 c =
-    let header' = c.before.before.before.before.before.before.before.before.before.before.header in
-    let write-u64 = c.before.before.before.before.before.before.before.before.before.write-u64 in
     let start = c.before.before.before.before.before.before.before.before.before.before.before.before.before.before in
     let scalar = kind_scalar start.args.kind _ c.before.before.before.before.before.before.kind-of.ensures c.before.before.before.before.enum-told3.given.1 in
-    scalar_puts start.args.area.now start.args.id start.args.kind start.args.aggregate start.args.bits start.args.length start.requires.0 start.args.out.now start.requires.1 header'.result header'.ensures write-u64.new.0 write-u64.ensures scalar.0 (omega (arith, scalar.1)) c.before.before.write-u642.new.0 c.before.before.write-u642.ensures
+    scalar_puts start.args.area.now start.args.id start.args.kind start.args.aggregate start.args.bits start.args.length start.requires.0 start.args.out.now start.requires.1 c.before.before.before.before.before.before.before.before.before.before.header.result c.before.before.before.before.before.before.before.before.before.before.header.ensures c.before.before.before.before.before.before.before.before.before.write-u64.new.0 c.before.before.before.before.before.before.before.before.before.write-u64.ensures scalar.0 (omega (arith, scalar.1)) c.before.before.write-u642.new.0 c.before.before.write-u642.ensures
 
 same-length-4 : tie.Need-same-length-4
 same-length-4 c = search rules
 
 returns-4 : tie.Need-returns-4
 returns-4 c =
-    let header' = c.before.before.before.before.before.before.before.before.before.before.header in
-    let write-u64 = c.before.before.before.before.before.before.before.before.before.write-u64 in
     let start = c.before.before.before.before.before.before.before.before.before.before.before.before.before.before in
     let blob = kind_blob start.args.kind _ c.before.before.before.before.before.before.kind-of.ensures c.before.before.before.before.enum-told4.given.1 in
-    value_puts start.args.area.now start.args.id start.args.kind start.args.aggregate start.args.bits start.args.length start.requires.0 start.args.out.now start.requires.1 header'.result header'.ensures write-u64.new.0 write-u64.ensures (omega (arith, blob.0)) c.before.before.write-blob.new.1.1.1.0 c.before.before.write-blob.result c.before.before.write-blob.ensures
+    value_puts start.args.area.now start.args.id start.args.kind start.args.aggregate start.args.bits start.args.length start.requires.0 start.args.out.now start.requires.1 c.before.before.before.before.before.before.before.before.before.before.header.result c.before.before.before.before.before.before.before.before.before.before.header.ensures c.before.before.before.before.before.before.before.before.before.write-u64.new.0 c.before.before.before.before.before.before.before.before.before.write-u64.ensures (omega (arith, blob.0)) c.before.before.write-blob.new.1.1.1.0 c.before.before.write-blob.result c.before.before.write-blob.ensures
 
 pub write-value-spec : {M : Type 1} → statement M
 write-value-spec =

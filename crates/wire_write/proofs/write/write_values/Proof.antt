@@ -14,9 +14,7 @@ abbrev decreases-loop : tie.decreases-loop
 decreases-loop area values start count out₀ at₀ k₀ left₀ out at k left = left
 
 loop-holds : tie.Need-loop-init invariant-loop decreases-loop
-loop-holds c =
-    let start' = c.before.before.before in
-    (start'.requires.1, start'.requires.2, begins _ _ start'.requires.3)
+loop-holds c = (c.before.before.before.requires.1, c.before.before.before.requires.2, begins _ _ c.before.before.before.requires.3)
 
 sub-write-entry : tie.Need-overflow-sub-write-entry invariant-loop decreases-loop
 sub-write-entry c = entry_within _ _ _ _ _ _ _ _ _ c.before.loop.invariant c.loop-test.true
