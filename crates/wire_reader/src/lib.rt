@@ -14,7 +14,7 @@ use wire_value::value::{ReadValue, read_value};
 use word_read::read_u64;
 
 // The input, and where the next read begins.
-#[derive(Drop)]
+#[derive(Clone, Copy)]
 pub struct Reader<'a> {
     pub input: &'a [u8],
     pub offset: usize,

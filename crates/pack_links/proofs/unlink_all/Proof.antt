@@ -8,49 +8,49 @@ use Rattle.pack_links.proofs.MoveLaws.{unlink_go, unlink_end}
 use Rattle.pack_links.proofs.unlink_all.Statement.{statement}
 use Rattle.pack_links.proofs.unlink_all.Tie as tie
 
-abbrev invariant-loop : tie.invariant-loop
+abbrev invariant-loop : tie.invariant-loop-k
 invariant-loop values₀ k₀ values k = Turned (plain_word values₀) values₀ values k
 
-abbrev decreases-loop : tie.decreases-loop
+abbrev decreases-loop : tie.decreases-loop-k
 decreases-loop values₀ k₀ values k = length values - k
 
-loop-holds : tie.Need-loop-init invariant-loop decreases-loop
+loop-holds : tie.Need-loop-k-init invariant-loop decreases-loop
 loop-holds c = turned_begin _ _
 
-plain-word-requires : tie.Need-plain-word-requires invariant-loop decreases-loop
-plain-word-requires c κs = c.before.loop-test.true
+plain_word-requires : tie.Need-plain_word-requires invariant-loop decreases-loop
+plain_word-requires c κs = c.loop-k-test.true
 
-mul-values : tie.Need-overflow-mul-values invariant-loop decreases-loop
-mul-values c = omega (arith, c.before.before.before.before.before.well-formed, c.before.before.before.loop.invariant.as_long)
+mul-values : tie.Need-offset_bounds-values-k invariant-loop decreases-loop
+mul-values c = omega (arith, c.well_formed, c.loop-k.invariant.as_long)
 
-slice-write-values : tie.Need-slice-write-values invariant-loop decreases-loop
-slice-write-values c = c.before.before.loop-test.true
+slice_write-values : tie.Need-bounds-values-k invariant-loop decreases-loop
+slice_write-values c = c.loop-k-test.true
 
-add-k : tie.Need-overflow-add-k invariant-loop decreases-loop
-add-k c = omega (arith, c.before.before.before.before.before.well-formed, c.before.before.before.loop.invariant.as_long)
+add-k : tie.Need-overflow_add-k invariant-loop decreases-loop
+add-k c = omega (arith, c.well_formed, c.loop-k.invariant.as_long)
 
-loop-less : tie.Need-loop-smaller invariant-loop decreases-loop
+loop-less : tie.Need-loop-k-smaller invariant-loop decreases-loop
 loop-less c = simp length-set (omega arith)
 
-loop-again : tie.Need-loop-preserved invariant-loop decreases-loop
-loop-again c = unlink_go _ _ _ _ c.before.before.before.loop.invariant c.before.before.loop-test.true c.plain_word.ensures
+loop-again : tie.Need-loop-k-preserved invariant-loop decreases-loop
+loop-again c = unlink_go _ _ _ _ c.loop-k.invariant c.loop-k-test.true c.plain_word.ensures
 
-same_length : tie.Need-same-length invariant-loop decreases-loop
-same_length c = c.before.loop.invariant.as_long
+same_length : tie.Need-shape_of-values invariant-loop decreases-loop
+same_length c = c.loop-k.invariant.as_long
 
 returns : tie.Need-returns invariant-loop decreases-loop
-returns c = unlink_end _ _ _ c.before.loop.invariant c.loop-test.false
+returns c = unlink_end _ _ _ c.loop-k.invariant c.loop-k-test.false
 
-pub unlink-all-spec : {M : Type 1} → statement M
-unlink-all-spec =
+pub unlink_all_spec : {M : Type 1} → statement M
+unlink_all_spec =
     tie.close
     (tie.spec
     invariant-loop
     decreases-loop
     loop-holds
-    plain-word-requires
+    plain_word-requires
     mul-values
-    slice-write-values
+    slice_write-values
     add-k
     loop-less
     loop-again

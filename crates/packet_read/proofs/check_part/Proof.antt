@@ -5,14 +5,14 @@ use borrow.Author.Rules.{rules}
 use Rattle.packet_read.proofs.check_part.Statement.{statement}
 use Rattle.packet_read.proofs.check_part.Tie as tie
 
-returns : tie.Need-returns
+returns : tie.Need-returns-then-size-eq-NULL_PART_SIZE
 returns c = search rules
 
 verified-requires : tie.Need-verified-requires
 verified-requires c κs = search rules
 
-returns-2 : tie.Need-returns-2
-returns-2 c = part_verdict _ _ _ c.verified.result c.before.if1.false c.verified.ensures
+returns-2 : tie.Need-returns
+returns-2 c = part_verdict _ _ _ c.verified.result c.if-size-eq-NULL_PART_SIZE.false c.verified.ensures
 
-pub check-part-spec : {M : Type 1} → statement M
-check-part-spec = tie.close (tie.spec returns verified-requires returns-2)
+pub check_part_spec : {M : Type 1} → statement M
+check_part_spec = tie.close (tie.spec returns verified-requires returns-2)

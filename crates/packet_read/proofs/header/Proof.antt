@@ -4,23 +4,23 @@ use borrow.Author.Rules.{rules}
 use Rattle.packet_read.proofs.header.Statement.{statement}
 use Rattle.packet_read.proofs.header.Tie as tie
 
-read-u16-requires : tie.Need-read-u16-requires
-read-u16-requires c κs = search rules
+read_u16-requires : tie.Need-read_u16-requires
+read_u16-requires c κs = search rules
 
-from-bytes-requires : tie.Need-from-bytes-requires
-from-bytes-requires c κs = search rules
+from_bytes-requires : tie.Need-from_bytes-requires
+from_bytes-requires c κs = search rules
 
-read-u32-requires : tie.Need-read-u32-requires
-read-u32-requires c κs = search rules
+read_u32-requires : tie.Need-read_u32-requires
+read_u32-requires c κs = search rules
 
 returns : tie.Need-returns
 returns c =
     rw (
-      c.before.before.before.before.requires,
-      c.before.before.read-u16.ensures,
-      c.before.from_bytes.ensures,
+      c.requires,
+      c.read_u16.ensures,
+      c.from_bytes.ensures,
       c.read_u32.ensures,
     )
 
-pub header-spec : {M : Type 1} → statement M
-header-spec = tie.close (tie.spec read-u16-requires from-bytes-requires read-u32-requires returns)
+pub header_spec : {M : Type 1} → statement M
+header_spec = tie.close (tie.spec read_u16-requires from_bytes-requires read_u32-requires returns)

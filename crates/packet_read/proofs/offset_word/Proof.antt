@@ -4,11 +4,11 @@ use borrow.Author.Tests.{eq-eqb, ne_eqb}
 use Rattle.packet_read.proofs.offset_word.Statement.{statement}
 use Rattle.packet_read.proofs.offset_word.Tie as tie
 
-returns : tie.Need-returns
-returns c = simp (eq-eqb _ _ c.if1.true)
+returns : tie.Need-returns-then-size-eq-NULL_PART_SIZE
+returns c = simp (eq-eqb _ _ c.if-size-eq-NULL_PART_SIZE.true)
 
-returns-2 : tie.Need-returns-2
-returns-2 c = simp (ne_eqb _ _ c.if1.false)
+returns-2 : tie.Need-returns-else-size-eq-NULL_PART_SIZE
+returns-2 c = simp (ne_eqb _ _ c.if-size-eq-NULL_PART_SIZE.false)
 
-pub offset-word-spec : {M : Type 1} → statement M
-offset-word-spec = tie.close (tie.spec returns returns-2)
+pub offset_word_spec : {M : Type 1} → statement M
+offset_word_spec = tie.close (tie.spec returns returns-2)

@@ -12,7 +12,7 @@ checksum-requires : tie.Need-checksum-requires
 checksum-requires c κs = search rules
 
 returns : tie.Need-returns
-returns c = c.checksum.ensures ∙ ap checksum c.before.part.ensures.bytes
+returns c = c.checksum.ensures ∙ ap checksum c.part.ensures.bytes
 
-pub part-checksum-spec : {M : Type 1} → statement M
-part-checksum-spec = tie.close (tie.spec part-requires checksum-requires returns)
+pub part_checksum_spec : {M : Type 1} → statement M
+part_checksum_spec = tie.close (tie.spec part-requires checksum-requires returns)

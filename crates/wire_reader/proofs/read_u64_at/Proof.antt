@@ -5,41 +5,41 @@ use borrow.Author.Rules.{rules}
 use Rattle.wire_reader.proofs.read_u64_at.Statement.{statement}
 use Rattle.wire_reader.proofs.read_u64_at.Tie as tie
 
-need-at-requires : tie.Need-need-at-requires
-need-at-requires c κs = search rules
+need_at-requires : tie.Need-need_at-requires
+need_at-requires c κs = search rules
 
-enum-known-refusal : tie.Need-enum-known-refusal
-enum-known-refusal c = search rules
+enum_known-refusal : tie.Need-enum_known-refusal
+enum_known-refusal c = search rules
 
-enum_told : tie.Need-enum-told
+enum_told : tie.Need-enum_told-1
 enum_told c = search rules
 
-read-u64-requires : tie.Need-read-u64-requires
-read-u64-requires c κs = search rules
+read_u64-requires : tie.Need-read_u64-requires
+read_u64-requires c κs = search rules
 
-add-t7 : tie.Need-overflow-add-t7
+add-t7 : tie.Need-overflow_add-result
 add-t7 c =
-    let start = c.before.before.before.before.before in
-    omega (arith, word_room start.args.input.now start.args.offset _ c.before.before.before.need-at.ensures c.before.enum_told.given.1)
+    let start = c in
+    omega (arith, word_room start.args.input.now start.args.offset _ c.need_at.ensures c.in-Enough.is)
 
-returns : tie.Need-returns
+returns : tie.Need-returns-in-Short
 returns c =
-    let start = c.before.before.before.before.before in
-    word_refused start.args.input.now start.args.offset _ c.before.before.before.need-at.ensures _ c.before.refusal.given.1
+    let start = c in
+    word_refused start.args.input.now start.args.offset _ c.need_at.ensures _ c.in-Short.is
 
-returns-2 : tie.Need-returns-2
+returns-2 : tie.Need-returns-in-Enough
 returns-2 c =
-    let start = c.before.before.before.before.before in
-    word_got start.args.input.now start.args.offset _ c.before.before.before.need-at.ensures c.before.enum_told.given.1 _ c.read_u64.ensures
+    let start = c in
+    word_got start.args.input.now start.args.offset _ c.need_at.ensures c.in-Enough.is _ c.read_u64.ensures
 
-pub read-u64-at-spec : {M : Type 1} → statement M
-read-u64-at-spec =
+pub read_u64_at_spec : {M : Type 1} → statement M
+read_u64_at_spec =
     tie.close
     (tie.spec
-    need-at-requires
-    enum-known-refusal
+    need_at-requires
+    enum_known-refusal
     enum_told
-    read-u64-requires
+    read_u64-requires
     add-t7
     returns
     returns-2)

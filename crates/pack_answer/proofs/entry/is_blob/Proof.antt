@@ -7,42 +7,42 @@ use borrow.Author.Rules.{rules}
 use Rattle.pack_answer.proofs.entry.is_blob.Statement.{statement}
 use Rattle.pack_answer.proofs.entry.is_blob.Tie as tie
 
-kind-of-requires : tie.Need-kind-of-requires
-kind-of-requires c κs = search rules
+kind_of-requires : tie.Need-kind_of-requires
+kind_of-requires c κs = search rules
 
-enum_told : tie.Need-enum-told
+enum_told : tie.Need-enum_told-1
 enum_told c = search rules
 
-enum-told-2 : tie.Need-enum-told-2
-enum-told-2 c = search rules
+enum_told-2 : tie.Need-enum_told-in-Scalar
+enum_told-2 c = search rules
 
-enum-told-3 : tie.Need-enum-told-3
-enum-told-3 c = search rules
+enum_told-3 : tie.Need-enum_told-in-Unknown
+enum_told-3 c = search rules
 
-enum-told-4 : tie.Need-enum-told-4
-enum-told-4 c = search rules
+enum_told-4 : tie.Need-enum_told-in-Blob
+enum_told-4 c = search rules
 
-returns : tie.Need-returns
-returns c = let code = c.before.before.before.args.code in sym (blob_low code (omega (arith, kind_null code _ c.before.before.kind-of.ensures c.enum_told.given.1)))
+returns : tie.Need-returns-in-Null
+returns c = let code = c.args.code in sym (blob_low code (omega (arith, kind_null code _ c.kind_of.ensures c.in-Null.is)))
 
-returns-2 : tie.Need-returns-2
-returns-2 c = let code = c.before.before.before.args.code in sym (blob_low code (omega (arith, (kind_scalar code _ c.before.before.kind-of.ensures c.enum-told2.given.1).1)))
+returns-2 : tie.Need-returns-in-Scalar
+returns-2 c = let code = c.args.code in sym (blob_low code (omega (arith, (kind_scalar code _ c.kind_of.ensures c.in-Scalar.is).1)))
 
-returns-3 : tie.Need-returns-3
-returns-3 c = sym (kind_unknown c.before.before.before.args.code _ c.before.before.kind-of.ensures c.enum-told3.given.1).2
+returns-3 : tie.Need-returns-in-Unknown
+returns-3 c = sym (kind_unknown c.args.code _ c.kind_of.ensures c.in-Unknown.is).2
 
-returns-4 : tie.Need-returns-4
-returns-4 c = let code = c.before.before.before.args.code in let range = kind_blob code _ c.before.before.kind-of.ensures c.enum-told4.given.1 in sym (blob_yes code range.0 range.1)
+returns-4 : tie.Need-returns-in-Blob
+returns-4 c = let code = c.args.code in let range = kind_blob code _ c.kind_of.ensures c.in-Blob.is in sym (blob_yes code range.0 range.1)
 
-pub is-blob-spec : {M : Type 1} → statement M
-is-blob-spec =
+pub is_blob_spec : {M : Type 1} → statement M
+is_blob_spec =
     tie.close
     (tie.spec
-    kind-of-requires
+    kind_of-requires
     enum_told
-    enum-told-2
-    enum-told-3
-    enum-told-4
+    enum_told-2
+    enum_told-3
+    enum_told-4
     returns
     returns-2
     returns-3

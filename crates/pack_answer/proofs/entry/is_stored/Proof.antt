@@ -8,14 +8,14 @@ use borrow.Author.Rules.{rules}
 use Rattle.pack_answer.proofs.entry.is_stored.Statement.{statement}
 use Rattle.pack_answer.proofs.entry.is_stored.Tie as tie
 
-is-blob-requires : tie.Need-is-blob-requires
-is-blob-requires c κs = search rules
+is_blob-requires : tie.Need-is_blob-requires
+is_blob-requires c κs = search rules
 
-returns : tie.Need-returns
-returns c = let none : blob c.before.before.args.code ≡ false = sym c.before.is-blob.ensures ∙ not-true _ c.if1.true in rw none
+returns : tie.Need-returns-then-not-is_blob
+returns c = let none : blob c.args.code ≡ false = sym c.is_blob.ensures ∙ not-true _ c.if-not-is_blob.true in rw none
 
-returns-2 : tie.Need-returns-2
-returns-2 c = let is : blob c.before.before.args.code ≡ true = sym c.before.is-blob.ensures ∙ not-false _ c.if1.false in rw is
+returns-2 : tie.Need-returns
+returns-2 c = let is : blob c.args.code ≡ true = sym c.is_blob.ensures ∙ not-false _ c.if-not-is_blob.false in rw is
 
-pub is-stored-spec : {M : Type 1} → statement M
-is-stored-spec = tie.close (tie.spec is-blob-requires returns returns-2)
+pub is_stored_spec : {M : Type 1} → statement M
+is_stored_spec = tie.close (tie.spec is_blob-requires returns returns-2)

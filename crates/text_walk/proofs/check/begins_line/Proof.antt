@@ -5,17 +5,17 @@ use borrow.Author.Rules.{rules}
 use Rattle.text_walk.proofs.check.begins_line.Statement.{statement}
 use Rattle.text_walk.proofs.check.begins_line.Tie as tie
 
-returns : tie.Need-returns
-returns c = rw (eq-eqb _ 10 c.if1.true)
+returns : tie.Need-returns-then-byte-eq10
+returns c = rw (eq-eqb _ 10 c.if-byte-eq10.true)
 
-returns-2 : tie.Need-returns-2
-returns-2 c = rw (ne_eqb _ 10 c.before.if1.false, eq-eqb _ 35 c.if2.true)
+returns-2 : tie.Need-returns-then-byte-eq35
+returns-2 c = rw (ne_eqb _ 10 c.if-byte-eq10.false, eq-eqb _ 35 c.if-byte-eq35.true)
 
-is-digit-requires : tie.Need-is-digit-requires
-is-digit-requires c κs = search rules
+is_digit-requires : tie.Need-is_digit-requires
+is_digit-requires c κs = search rules
 
-returns-3 : tie.Need-returns-3
-returns-3 c = c.is_digit.ensures ∙ rw (ne_eqb _ 10 c.before.before.if1.false, ne_eqb _ 35 c.before.if2.false)
+returns-3 : tie.Need-returns
+returns-3 c = c.is_digit.ensures ∙ rw (ne_eqb _ 10 c.if-byte-eq10.false, ne_eqb _ 35 c.if-byte-eq35.false)
 
-pub begins-line-spec : {M : Type 1} → statement M
-begins-line-spec = tie.close (tie.spec returns returns-2 is-digit-requires returns-3)
+pub begins_line_spec : {M : Type 1} → statement M
+begins_line_spec = tie.close (tie.spec returns returns-2 is_digit-requires returns-3)

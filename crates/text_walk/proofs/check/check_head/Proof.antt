@@ -6,80 +6,80 @@ use borrow.Author.Rules.{rules}
 use Rattle.text_walk.proofs.check.check_head.Statement.{statement}
 use Rattle.text_walk.proofs.check.check_head.Tie as tie
 
-check-id-requires : tie.Need-check-id-requires
-check-id-requires c κs = search rules
+check_id-requires : tie.Need-check_id-requires
+check_id-requires c κs = search rules
 
-enum-known-place : tie.Need-enum-known-place
-enum-known-place c = search rules
+enum_known-place : tie.Need-enum_known-place
+enum_known-place c = search rules
 
-enum-known-next : tie.Need-enum-known-next
-enum-known-next c = search rules
+enum_known-next : tie.Need-enum_known-next
+enum_known-next c = search rules
 
-byte-at-requires : tie.Need-byte-at-requires
-byte-at-requires c κs = search rules
+byte_at-requires : tie.Need-byte_at-requires
+byte_at-requires c κs = search rules
 
-add-check-letter : tie.Need-overflow-add-check-letter
-add-check-letter c =
-    let start = c.before.before.before.before.before.before.before in
+add-check_letter : tie.Need-overflow_add-next
+add-check_letter c =
+    let start = c in
     let a = start.args in
-    let check-id = c.before.before.before.before.before.check-id in
+    let check-id = c.check_id in
     omega (
       arith,
       sign_inside a.text.now a.start a.first check-id.result check-id.ensures _
-          c.before.before.before.next.given.1 (sym c.before.byte_at.ensures ∙ c.if1.true),
-      start.well-formed,
+          c.in-To.is (sym c.byte_at.ensures ∙ c.if-byte_at-eq33.true),
+      start.well_formed,
     )
 
-check-letter-requires : tie.Need-check-letter-requires
-check-letter-requires c κs =
-    let start = c.before.before.before.before.before.before.before in
+check_letter-requires : tie.Need-check_letter-requires
+check_letter-requires c κs =
+    let start = c in
     let a = start.args in
-    let check-id = c.before.before.before.before.before.check-id in
+    let check-id = c.check_id in
     sign_inside a.text.now a.start a.first check-id.result check-id.ensures _
-    c.before.before.before.next.given.1 (sym c.before.byte_at.ensures ∙ c.if1.true)
+    c.in-To.is (sym c.byte_at.ensures ∙ c.if-byte_at-eq33.true)
 
-returns : tie.Need-returns
+returns : tie.Need-returns-then-byte_at-eq33
 returns c =
-    let start = c.before.before.before.before.before.before.before.before in
+    let start = c in
     let a = start.args in
-    let check-id = c.before.before.before.before.before.before.check-id in
+    let check-id = c.check_id in
     head_sign a.text.now a.start a.first check-id.result check-id.ensures _
-    c.before.before.before.before.next.given.1
-    (sym c.before.before.byte_at.ensures ∙ c.before.if1.true) c.check-letter.result
-    c.check-letter.ensures
+    c.in-To.is
+    (sym c.byte_at.ensures ∙ c.if-byte_at-eq33.true) c.check_letter.result
+    c.check_letter.ensures
 
-check-letter-requires-2 : tie.Need-check-letter-requires-2
-check-letter-requires-2 c κs =
-    let start = c.before.before.before.before.before.before.before in
+check_letter-requires-2 : tie.Need-check_letter-requires-in-To
+check_letter-requires-2 c κs =
+    let start = c in
     let a = start.args in
-    let check-id = c.before.before.before.before.before.check-id in
+    let check-id = c.check_id in
     id_inside a.text.now a.start a.first check-id.result check-id.ensures _
-    c.before.before.before.next.given.1
+    c.in-To.is
 
-returns-2 : tie.Need-returns-2
-returns-2 c = head_bad _ _ _ _ c.before.before.before.check-id.ensures _ c.before.place.given.1
+returns-2 : tie.Need-returns-in-Bad
+returns-2 c = head_bad _ _ _ _ c.check_id.ensures _ c.in-Bad.is
 
-returns-3 : tie.Need-returns-3
+returns-3 : tie.Need-returns-else-byte_at-eq33
 returns-3 c =
-    let start = c.before.before.before.before.before.before.before.before in
+    let start = c in
     let a = start.args in
-    let check-id = c.before.before.before.before.before.before.check-id in
+    let check-id = c.check_id in
     head_plain a.text.now a.start a.first check-id.result check-id.ensures _
-    c.before.before.before.before.next.given.1
-    (λ e. c.before.if1.false (c.before.before.byte_at.ensures ∙ e)) c.check-letter2.result
-    c.check-letter2.ensures
+    c.in-To.is
+    (λ e. c.if-byte_at-eq33.false (c.byte_at.ensures ∙ e)) c.check_letter-in-To.result
+    c.check_letter-in-To.ensures
 
-pub check-head-spec : {M : Type 1} → statement M
-check-head-spec =
+pub check_head_spec : {M : Type 1} → statement M
+check_head_spec =
     tie.close
     (tie.spec
-    check-id-requires
-    enum-known-place
-    enum-known-next
-    byte-at-requires
-    add-check-letter
-    check-letter-requires
+    check_id-requires
+    enum_known-place
+    enum_known-next
+    byte_at-requires
+    add-check_letter
+    check_letter-requires
     returns
-    check-letter-requires-2
+    check_letter-requires-2
     returns-2
     returns-3)

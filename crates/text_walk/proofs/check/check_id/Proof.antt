@@ -8,67 +8,67 @@ use Rattle.text_steps.proofs.StepLaws.{number_low, number_high, number_zero, num
 use Rattle.text_walk.proofs.check.check_id.Statement.{statement}
 use Rattle.text_walk.proofs.check.check_id.Tie as tie
 
-abbrev invariant-loop : tie.invariant-loop
+abbrev invariant-loop : tie.invariant-loop-at
 invariant-loop text start first at₀ id₀ at id = IdLeft text start first at id
 
-abbrev decreases-loop : tie.decreases-loop
+abbrev decreases-loop : tie.decreases-loop-at
 decreases-loop text start first at₀ id₀ at id = length text - at
 
-loop-holds : tie.Need-loop-init invariant-loop decreases-loop
+loop-holds : tie.Need-loop-at-init invariant-loop decreases-loop
 loop-holds c =
     let start = c in
     (omega arith, start.requires.0, start.requires.1, λ rows cells. refl)
 
-shared-slice-read-byte : tie.Need-shared-slice-read-byte invariant-loop decreases-loop
-shared-slice-read-byte c = omega arith
+shared_slice_read-byte : tie.Need-bounds-text-at invariant-loop decreases-loop
+shared_slice_read-byte c = omega arith
 
-add-t12 : tie.Need-overflow-add-t12 invariant-loop decreases-loop
+add-t12 : tie.Need-overflow_add-result invariant-loop decreases-loop
 add-t12 c = omega arith
 
-returns : tie.Need-returns invariant-loop decreases-loop
-returns c = id_colon _ _ _ _ _ c.before.before.before.loop.invariant c.before.before.loop-test.true c.if1.true
+returns : tie.Need-returns-then-byte-eq58 invariant-loop decreases-loop
+returns c = id_colon _ _ _ _ _ c.loop-at.invariant c.loop-at-test.true c.if-byte-eq58.true
 
-returns-2 : tie.Need-returns-2 invariant-loop decreases-loop
-returns-2 c = id_stop _ _ _ _ _ c.before.before.before.before.loop.invariant c.before.before.before.loop-test.true (λ rows cells. number_low rows cells _ _ c.if2.true)
+returns-2 : tie.Need-returns-then-byte-lt48 invariant-loop decreases-loop
+returns-2 c = id_stop _ _ _ _ _ c.loop-at.invariant c.loop-at-test.true (λ rows cells. number_low rows cells _ _ c.if-byte-lt48.true)
 
-returns-3 : tie.Need-returns-3 invariant-loop decreases-loop
-returns-3 c = id_stop _ _ _ _ _ c.before.before.before.before.before.loop.invariant c.before.before.before.before.loop-test.true (λ rows cells. number_high rows cells _ _ c.before.before.if1.false c.if3.true)
+returns-3 : tie.Need-returns-then-byte-gt57 invariant-loop decreases-loop
+returns-3 c = id_stop _ _ _ _ _ c.loop-at.invariant c.loop-at-test.true (λ rows cells. number_high rows cells _ _ c.if-byte-eq58.false c.if-byte-gt57.true)
 
-returns-4 : tie.Need-returns-4 invariant-loop decreases-loop
-returns-4 c = id_stop _ _ _ _ _ c.before.before.before.before.before.before.loop.invariant c.before.before.before.before.before.loop-test.true (λ rows cells. number_zero rows cells _ _ c.before.before.before.if1.false c.before.before.if2.false c.before.if3.false c.if4.true)
+returns-4 : tie.Need-returns-then-id-eq0 invariant-loop decreases-loop
+returns-4 c = id_stop _ _ _ _ _ c.loop-at.invariant c.loop-at-test.true (λ rows cells. number_zero rows cells _ _ c.if-byte-eq58.false c.if-byte-lt48.false c.if-byte-gt57.false c.if-id-eq0.true)
 
-mul-more : tie.Need-overflow-mul-more invariant-loop decreases-loop
+mul-more : tie.Need-overflow_mul-more invariant-loop decreases-loop
 mul-more c = omega arith
 
-cast-more : tie.Need-overflow-cast-more invariant-loop decreases-loop
+cast-more : tie.Need-overflow_cast-more invariant-loop decreases-loop
 cast-more c = omega arith
 
-add-more : tie.Need-overflow-add-more invariant-loop decreases-loop
+add-more : tie.Need-overflow_add-more invariant-loop decreases-loop
 add-more c = omega arith
 
-returns-5 : tie.Need-returns-5 invariant-loop decreases-loop
-returns-5 c = id_stop _ _ _ _ _ c.before.before.before.before.before.before.before.loop.invariant c.before.before.before.before.before.before.loop-test.true (λ rows cells. number_over rows cells _ _ c.before.before.before.before.if1.false c.before.before.before.if2.false c.before.before.if3.false c.before.if4.false c.if5.true)
+returns-5 : tie.Need-returns-then-more-gt65535 invariant-loop decreases-loop
+returns-5 c = id_stop _ _ _ _ _ c.loop-at.invariant c.loop-at-test.true (λ rows cells. number_over rows cells _ _ c.if-byte-eq58.false c.if-byte-lt48.false c.if-byte-gt57.false c.if-id-eq0.false c.if-more-gt65535.true)
 
-add_at : tie.Need-overflow-add-at invariant-loop decreases-loop
+add_at : tie.Need-overflow_add-at invariant-loop decreases-loop
 add_at c = omega arith
 
-loop-less : tie.Need-loop-smaller invariant-loop decreases-loop
+loop-less : tie.Need-loop-at-smaller invariant-loop decreases-loop
 loop-less c = omega arith
 
-loop-again : tie.Need-loop-preserved invariant-loop decreases-loop
-loop-again c = id_more _ _ _ _ _ c.before.before.before.before.before.before.before.loop.invariant c.before.before.before.before.before.before.loop-test.true _ c.if5.false (λ rows cells. number_more rows cells _ _ c.before.before.before.before.if1.false c.before.before.before.if2.false c.before.before.if3.false c.before.if4.false c.if5.false)
+loop-again : tie.Need-loop-at-preserved invariant-loop decreases-loop
+loop-again c = id_more _ _ _ _ _ c.loop-at.invariant c.loop-at-test.true _ c.if-more-gt65535.false (λ rows cells. number_more rows cells _ _ c.if-byte-eq58.false c.if-byte-lt48.false c.if-byte-gt57.false c.if-id-eq0.false c.if-more-gt65535.false)
 
-returns-6 : tie.Need-returns-6 invariant-loop decreases-loop
-returns-6 c = id_early _ _ _ _ _ c.before.loop.invariant c.loop-test.false
+returns-6 : tie.Need-returns invariant-loop decreases-loop
+returns-6 c = id_early _ _ _ _ _ c.loop-at.invariant c.loop-at-test.false
 
-pub check-id-spec : {M : Type 1} → statement M
-check-id-spec =
+pub check_id_spec : {M : Type 1} → statement M
+check_id_spec =
     tie.close
     (tie.spec
     invariant-loop
     decreases-loop
     loop-holds
-    shared-slice-read-byte
+    shared_slice_read-byte
     add-t12
     returns
     returns-2

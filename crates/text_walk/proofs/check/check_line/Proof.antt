@@ -7,96 +7,96 @@ use borrow.Author.Rules.{rules}
 use Rattle.text_walk.proofs.check.check_line.Statement.{statement}
 use Rattle.text_walk.proofs.check.check_line.Tie as tie
 
-shared-slice-read-byte : tie.Need-shared-slice-read-byte
-shared-slice-read-byte c = search rules
+shared_slice_read-byte : tie.Need-bounds-text-at
+shared_slice_read-byte c = search rules
 
-begins-line-requires : tie.Need-begins-line-requires
-begins-line-requires c κs = search rules
+begins_line-requires : tie.Need-begins_line-requires
+begins_line-requires c κs = search rules
 
-returns : tie.Need-returns
+returns : tie.Need-returns-then-not-begins_line
 returns c =
-    let start = c.before.before.before.before in
+    let start = c in
     let a = start.args in
-    let begins-line = c.before.begins-line in
+    let begins-line = c.begins_line in
     line_other a.text.now a.at a.row a.size start.requires.0 begins-line.result begins-line.ensures
-    (not-true _ c.if1.true)
+    (not-true _ c.if-not-begins_line.true)
 
-add-t13 : tie.Need-overflow-add-t13
+add-t13 : tie.Need-overflow_add-result
 add-t13 c = search rules
 
-returns-2 : tie.Need-returns-2
+returns-2 : tie.Need-returns-then-row
 returns-2 c =
-    let start = c.before.before.before.before.before in
+    let start = c in
     let a = start.args in
-    let begins-line = c.before.before.begins-line in
+    let begins-line = c.begins_line in
     line_many a.text.now a.at a.row a.size start.requires.0 begins-line.result begins-line.ensures
-    (not-false _ c.before.if1.false) c.if2.true
+    (not-false _ c.if-not-begins_line.false) c.if-row.true
 
-add-sum : tie.Need-overflow-add-sum
-add-sum c = omega (arith, c.before.before.before.before.before.requires.2)
+add-sum : tie.Need-overflow_add-sum
+add-sum c = omega (arith, c.requires.2)
 
-returns-3 : tie.Need-returns-3
+returns-3 : tie.Need-returns-then-sum-gt-MAX_ROWSET_SIZE
 returns-3 c =
-    let start = c.before.before.before.before.before.before in
+    let start = c in
     let a = start.args in
-    let begins-line = c.before.before.before.begins-line in
+    let begins-line = c.begins_line in
     line_large a.text.now a.at a.row a.size start.requires.0 begins-line.result begins-line.ensures
-    (not-false _ c.before.before.if1.false) (omega (arith, start.requires.1, c.before.if2.false)) c.if3.true
+    (not-false _ c.if-not-begins_line.false) (omega (arith, start.requires.1, c.if-row.false)) c.if-sum-gt-MAX_ROWSET_SIZE.true
 
-add-t18 : tie.Need-overflow-add-t18
+add-t18 : tie.Need-overflow_add-result-then-byte-eq10
 add-t18 c =
-    let start = c.before.before.before.before.before.before.before in
-    omega (arith, start.requires.0, start.well-formed)
+    let start = c in
+    omega (arith, start.requires.0, start.well_formed)
 
-returns-4 : tie.Need-returns-4
+returns-4 : tie.Need-returns-then-byte-eq10
 returns-4 c =
-    let start = c.before.before.before.before.before.before.before in
+    let start = c in
     let a = start.args in
-    let begins-line = c.before.before.before.before.begins-line in
+    let begins-line = c.begins_line in
     line_empty a.text.now a.at a.row a.size start.requires.0 begins-line.result begins-line.ensures
-    (not-false _ c.before.before.before.if1.false) (omega (arith, start.requires.1, c.before.before.if2.false))
-    c.before.if3.false c.if4.true
+    (not-false _ c.if-not-begins_line.false) (omega (arith, start.requires.1, c.if-row.false))
+    c.if-sum-gt-MAX_ROWSET_SIZE.false c.if-byte-eq10.true
 
-add-check-null : tie.Need-overflow-add-check-null
-add-check-null c =
-    let start = c.before.before.before.before.before.before.before.before in
-    omega (arith, start.requires.0, start.well-formed)
+add-check_null : tie.Need-overflow_add-at
+add-check_null c =
+    let start = c in
+    omega (arith, start.requires.0, start.well_formed)
 
-check-null-requires : tie.Need-check-null-requires
-check-null-requires c κs = omega (arith, c.before.before.before.before.before.before.before.before.requires.0)
+check_null-requires : tie.Need-check_null-requires
+check_null-requires c κs = omega (arith, c.requires.0)
 
-returns-5 : tie.Need-returns-5
+returns-5 : tie.Need-returns-then-byte-eq35
 returns-5 c =
-    let start = c.before.before.before.before.before.before.before.before.before in
+    let start = c in
     let a = start.args in
-    let begins-line = c.before.before.before.before.before.before.begins-line in
+    let begins-line = c.begins_line in
     line_null a.text.now a.at a.row a.size start.requires.0 begins-line.result begins-line.ensures
-    (not-false _ c.before.before.before.before.before.if1.false)
-    (omega (arith, start.requires.1, c.before.before.before.before.if2.false)) c.before.before.before.if3.false
-    c.before.if5.true c.check-null.result c.check-null.ensures
+    (not-false _ c.if-not-begins_line.false)
+    (omega (arith, start.requires.1, c.if-row.false)) c.if-sum-gt-MAX_ROWSET_SIZE.false
+    c.if-byte-eq35.true c.check_null.result c.check_null.ensures
 
-check-values-requires : tie.Need-check-values-requires
-check-values-requires c κs =
-    let start = c.before.before.before.before.before.before.before.before in
+check_values-requires : tie.Need-check_values-requires
+check_values-requires c κs =
+    let start = c in
     let a = start.args in
-    let begins-line = c.before.before.before.before.before.begins-line in (
+    let begins-line = c.begins_line in (
       omega (arith, start.requires.0),
       line_digit a.text.now a.at a.row a.size start.requires.0
-          begins-line.result begins-line.ensures (not-false _ c.before.before.before.before.if1.false)
-          c.before.if4.false c.if5.false,
-      (omega (arith, start.requires.1, c.before.before.before.if2.false)),
-      c.before.before.if3.false,
+          begins-line.result begins-line.ensures (not-false _ c.if-not-begins_line.false)
+          c.if-byte-eq10.false c.if-byte-eq35.false,
+      (omega (arith, start.requires.1, c.if-row.false)),
+      c.if-sum-gt-MAX_ROWSET_SIZE.false,
     )
 
-returns-6 : tie.Need-returns-6
-returns-6 c = c.check-values.ensures _ refl
+returns-6 : tie.Need-returns
+returns-6 c = c.check_values.ensures _ refl
 
-pub check-line-spec : {M : Type 1} → statement M
-check-line-spec =
+pub check_line_spec : {M : Type 1} → statement M
+check_line_spec =
     tie.close
     (tie.spec
-    shared-slice-read-byte
-    begins-line-requires
+    shared_slice_read-byte
+    begins_line-requires
     returns
     add-t13
     returns-2
@@ -104,8 +104,8 @@ check-line-spec =
     returns-3
     add-t18
     returns-4
-    add-check-null
-    check-null-requires
+    add-check_null
+    check_null-requires
     returns-5
-    check-values-requires
+    check_values-requires
     returns-6)

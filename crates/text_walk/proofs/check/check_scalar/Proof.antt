@@ -4,46 +4,46 @@ use borrow.Author.Rules.{rules}
 use Rattle.text_walk.proofs.check.check_scalar.Statement.{statement}
 use Rattle.text_walk.proofs.check.check_scalar.Tie as tie
 
-check-word-requires : tie.Need-check-word-requires
-check-word-requires c κs = search rules
+check_word-requires : tie.Need-check_word-requires
+check_word-requires c κs = search rules
 
-enum-known-place : tie.Need-enum-known-place
-enum-known-place c = search rules
+enum_known-place : tie.Need-enum_known-place
+enum_known-place c = search rules
 
-enum-known-next : tie.Need-enum-known-next
-enum-known-next c = search rules
+enum_known-next : tie.Need-enum_known-next
+enum_known-next c = search rules
 
-check-end-requires : tie.Need-check-end-requires
-check-end-requires c κs =
-    let start = c.before.before.before.before.before in
+check_end-requires : tie.Need-check_end-requires
+check_end-requires c κs =
+    let start = c in
     let a = start.args in
-    let check-word = c.before.before.before.check-word in
+    let check-word = c.check_word in
     word_inside a.text.now a.at a.kind a.size check-word.result check-word.ensures _
-    c.before.next.given.1
+    c.in-To.is
 
-returns : tie.Need-returns
+returns : tie.Need-returns-in-Bad
 returns c =
-    let start = c.before.before.before.before.before in
+    let start = c in
     let a = start.args in
-    let check-word = c.before.before.before.check-word in
+    let check-word = c.check_word in
     scalar_bad a.text.now a.at a.kind a.size check-word.result check-word.ensures _
-    c.before.place.given.1
+    c.in-Bad.is
 
-returns-2 : tie.Need-returns-2
+returns-2 : tie.Need-returns-in-To
 returns-2 c =
-    let start = c.before.before.before.before.before.before in
+    let start = c in
     let a = start.args in
-    let check-word = c.before.before.before.before.check-word in
+    let check-word = c.check_word in
     scalar_ends a.text.now a.at a.kind a.size check-word.result check-word.ensures _
-    c.before.before.next.given.1 c.check-end.result c.check-end.ensures
+    c.in-To.is c.check_end.result c.check_end.ensures
 
-pub check-scalar-spec : {M : Type 1} → statement M
-check-scalar-spec =
+pub check_scalar_spec : {M : Type 1} → statement M
+check_scalar_spec =
     tie.close
     (tie.spec
-    check-word-requires
-    enum-known-place
-    enum-known-next
-    check-end-requires
+    check_word-requires
+    enum_known-place
+    enum_known-next
+    check_end-requires
     returns
     returns-2)

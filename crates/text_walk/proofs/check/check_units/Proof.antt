@@ -10,136 +10,136 @@ use borrow.Author.Rules.{rules}
 use Rattle.text_walk.proofs.check.check_units.Statement.{statement}
 use Rattle.text_walk.proofs.check.check_units.Tie as tie
 
-abbrev invariant-loop : tie.invariant-loop
+abbrev invariant-loop : tie.invariant-loop-at
 invariant-loop text start at₀ limit₀ at limit = UnitsTo text start at limit
 
-abbrev decreases-loop : tie.decreases-loop
+abbrev decreases-loop : tie.decreases-loop-at
 decreases-loop text start at₀ limit₀ at limit = length text - at
 
-cast-limit : tie.Need-overflow-cast-limit invariant-loop decreases-loop
+cast-limit : tie.Need-overflow_cast-limit invariant-loop decreases-loop
 cast-limit c = search rules
 
-add-limit : tie.Need-overflow-add-limit invariant-loop decreases-loop
+add-limit : tie.Need-overflow_add-limit invariant-loop decreases-loop
 add-limit c =
-    let start = c.before in
-    omega (arith, start.requires, start.well-formed)
+    let start = c in
+    omega (arith, start.requires, start.well_formed)
 
-loop-holds : tie.Need-loop-init invariant-loop decreases-loop
-loop-holds c = to_begin _ _ c.before.requires
+loop-holds : tie.Need-loop-at-init invariant-loop decreases-loop
+loop-holds c = to_begin _ _ c.requires
 
-shared-slice-read-byte : tie.Need-shared-slice-read-byte invariant-loop decreases-loop
-shared-slice-read-byte c = omega arith
+shared_slice_read-byte : tie.Need-bounds-text-at invariant-loop decreases-loop
+shared_slice_read-byte c = omega arith
 
-is-escaped-requires : tie.Need-is-escaped-requires invariant-loop decreases-loop
-is-escaped-requires c κs = search rules
+is_escaped-requires : tie.Need-is_escaped-requires invariant-loop decreases-loop
+is_escaped-requires c κs = search rules
 
-too-long-requires : tie.Need-too-long-requires invariant-loop decreases-loop
-too-long-requires c κs = search rules
+too_long-requires : tie.Need-too_long-requires invariant-loop decreases-loop
+too_long-requires c κs = search rules
 
-returns : tie.Need-returns invariant-loop decreases-loop
+returns : tie.Need-returns-then-at-limit invariant-loop decreases-loop
 returns c =
-    let turn = c.before.before.before.before.before.before in
-    let start = c.before.before.before.before.before.before.before.before in let so_far = turn.loop.invariant in units_over start.args.text.now start.args.start turn.loop.at _ so_far.1 c.before.before.before.before.before.loop-test.true (sym c.before.before.before.is-escaped.ensures ∙ not-true _ c.before.before.if1.true) _ c.too_long.ensures (at_most start.args.text.now start.args.start turn.loop.at turn.loop.limit so_far c.before.if2.true)
+    let turn = c in
+    let start = c in let so_far = turn.loop-at.invariant in units_over start.args.text.now start.args.start turn.loop-at.at _ so_far.1 c.loop-at-test.true (sym c.is_escaped.ensures ∙ not-true _ c.if-not-is_escaped.true) _ c.too_long.ensures (at_most start.args.text.now start.args.start turn.loop-at.at turn.loop-at.limit so_far c.if-at-limit.true)
 
-add_at : tie.Need-overflow-add-at invariant-loop decreases-loop
-add_at c = omega (arith, c.before.before.before.before.loop-test.true, c.before.before.before.before.before.before.before.well-formed)
+add_at : tie.Need-overflow_add-at invariant-loop decreases-loop
+add_at c = omega (arith, c.loop-at-test.true, c.well_formed)
 
-loop-less : tie.Need-loop-smaller invariant-loop decreases-loop
-loop-less c = omega (arith, c.before.before.before.before.loop-test.true)
+loop-less : tie.Need-loop-at-smaller-then-not-is_escaped invariant-loop decreases-loop
+loop-less c = omega (arith, c.loop-at-test.true)
 
-loop-again : tie.Need-loop-preserved invariant-loop decreases-loop
+loop-again : tie.Need-loop-at-preserved-then-not-is_escaped invariant-loop decreases-loop
 loop-again c =
-    let turn = c.before.before.before.before.before in
-    let start = c.before.before.before.before.before.before.before in let so_far = turn.loop.invariant in plain_to start.args.text.now start.args.start turn.loop.at turn.loop.limit so_far c.before.before.before.before.loop-test.true (sym c.before.before.is-escaped.ensures ∙ not-true _ c.before.if1.true) c.if2.false
+    let turn = c in
+    let start = c in let so_far = turn.loop-at.invariant in plain_to start.args.text.now start.args.start turn.loop-at.at turn.loop-at.limit so_far c.loop-at-test.true (sym c.is_escaped.ensures ∙ not-true _ c.if-not-is_escaped.true) c.if-at-limit.false
 
-add-check-escape : tie.Need-overflow-add-check-escape invariant-loop decreases-loop
-add-check-escape c = omega (arith, c.before.before.before.before.loop-test.true, c.before.before.before.before.before.before.before.well-formed)
+add-check_escape : tie.Need-overflow_add-at-then-byte-eq37 invariant-loop decreases-loop
+add-check_escape c = omega (arith, c.loop-at-test.true, c.well_formed)
 
-check-escape-requires : tie.Need-check-escape-requires invariant-loop decreases-loop
-check-escape-requires c κs = omega (arith, c.before.before.before.before.loop-test.true)
+check_escape-requires : tie.Need-check_escape-requires invariant-loop decreases-loop
+check_escape-requires c κs = omega (arith, c.loop-at-test.true)
 
-enum-known-place : tie.Need-enum-known-place invariant-loop decreases-loop
-enum-known-place c = search rules
+enum_known-place : tie.Need-enum_known-place invariant-loop decreases-loop
+enum_known-place c = search rules
 
-returns-2 : tie.Need-returns-2 invariant-loop decreases-loop
+returns-2 : tie.Need-returns-in-Bad invariant-loop decreases-loop
 returns-2 c =
-    let turn = c.before.before.before.before.before.before.before.before.before in
-    let start = c.before.before.before.before.before.before.before.before.before.before.before in let so_far = turn.loop.invariant in units_broken start.args.text.now start.args.start turn.loop.at _ so_far.1 c.before.before.before.before.before.before.before.before.loop-test.true (sym c.before.before.before.before.before.before.is-escaped.ensures ∙ not-false _ c.before.before.before.before.before.if1.false) c.before.before.before.before.if3.true _ c.before.before.before.check-escape.ensures _ c.before.place.given.1
+    let turn = c in
+    let start = c in let so_far = turn.loop-at.invariant in units_broken start.args.text.now start.args.start turn.loop-at.at _ so_far.1 c.loop-at-test.true (sym c.is_escaped.ensures ∙ not-false _ c.if-not-is_escaped.false) c.if-byte-eq37.true _ c.check_escape.ensures _ c.in-Bad.is
 
-enum-known-next : tie.Need-enum-known-next invariant-loop decreases-loop
-enum-known-next c = search rules
+enum_known-next : tie.Need-enum_known-next invariant-loop decreases-loop
+enum_known-next c = search rules
 
-too-long-requires-2 : tie.Need-too-long-requires-2 invariant-loop decreases-loop
-too-long-requires-2 c κs = search rules
+too_long-requires-2 : tie.Need-too_long-requires-then-at-limit-2 invariant-loop decreases-loop
+too_long-requires-2 c κs = search rules
 
-returns-3 : tie.Need-returns-3 invariant-loop decreases-loop
+returns-3 : tie.Need-returns-then-at-limit-2 invariant-loop decreases-loop
 returns-3 c =
-    let turn = c.before.before.before.before.before.before.before.before.before.before.before in
-    let start = c.before.before.before.before.before.before.before.before.before.before.before.before.before in let so_far = turn.loop.invariant in units_escape_over start.args.text.now start.args.start turn.loop.at _ so_far.1 c.before.before.before.before.before.before.before.before.before.before.loop-test.true (sym c.before.before.before.before.before.before.before.before.is-escaped.ensures ∙ not-false _ c.before.before.before.before.before.before.before.if1.false) c.before.before.before.before.before.before.if3.true _ c.before.before.before.before.before.check-escape.ensures _ c.before.before.before.next.given.1 _ c.too-long2.ensures (at_most start.args.text.now start.args.start turn.loop.at turn.loop.limit so_far c.before.if4.true)
+    let turn = c in
+    let start = c in let so_far = turn.loop-at.invariant in units_escape_over start.args.text.now start.args.start turn.loop-at.at _ so_far.1 c.loop-at-test.true (sym c.is_escaped.ensures ∙ not-false _ c.if-not-is_escaped.false) c.if-byte-eq37.true _ c.check_escape.ensures _ c.in-To.is _ c.too_long-then-at-limit-2.ensures (at_most start.args.text.now start.args.start turn.loop-at.at turn.loop-at.limit so_far c.if-at-limit-2.true)
 
-sub-limit : tie.Need-overflow-sub-limit invariant-loop decreases-loop
+sub-limit : tie.Need-overflow_sub-limit invariant-loop decreases-loop
 sub-limit c =
-    let turn = c.before.before.before.before.before.before.before.before.before.before in
-    let start = c.before.before.before.before.before.before.before.before.before.before.before.before in let so_far = turn.loop.invariant in let lies = escape_lies start.args.text.now start.args.start turn.loop.at _ so_far.1 c.before.before.before.before.before.before.before.before.before.loop-test.true (sym c.before.before.before.before.before.before.before.is-escaped.ensures ∙ not-false _ c.before.before.before.before.before.before.if1.false) c.before.before.before.before.before.if3.true _ c.before.before.before.before.check-escape.ensures _ c.before.before.next.given.1 in omega (arith, lies.0, lies.1, so_far.0, start.well-formed)
+    let turn = c in
+    let start = c in let so_far = turn.loop-at.invariant in let lies = escape_lies start.args.text.now start.args.start turn.loop-at.at _ so_far.1 c.loop-at-test.true (sym c.is_escaped.ensures ∙ not-false _ c.if-not-is_escaped.false) c.if-byte-eq37.true _ c.check_escape.ensures _ c.in-To.is in omega (arith, lies.0, lies.1, so_far.0, start.well_formed)
 
-sub-limit-2 : tie.Need-overflow-sub-limit-2 invariant-loop decreases-loop
+sub-limit-2 : tie.Need-overflow_sub-limit-in-To invariant-loop decreases-loop
 sub-limit-2 c =
-    let turn = c.before.before.before.before.before.before.before.before.before.before in
-    let start = c.before.before.before.before.before.before.before.before.before.before.before.before in let so_far = turn.loop.invariant in let lies = escape_lies start.args.text.now start.args.start turn.loop.at _ so_far.1 c.before.before.before.before.before.before.before.before.before.loop-test.true (sym c.before.before.before.before.before.before.before.is-escaped.ensures ∙ not-false _ c.before.before.before.before.before.before.if1.false) c.before.before.before.before.before.if3.true _ c.before.before.before.before.check-escape.ensures _ c.before.before.next.given.1 in omega (arith, lies.0, lies.1, so_far.0, start.well-formed)
+    let turn = c in
+    let start = c in let so_far = turn.loop-at.invariant in let lies = escape_lies start.args.text.now start.args.start turn.loop-at.at _ so_far.1 c.loop-at-test.true (sym c.is_escaped.ensures ∙ not-false _ c.if-not-is_escaped.false) c.if-byte-eq37.true _ c.check_escape.ensures _ c.in-To.is in omega (arith, lies.0, lies.1, so_far.0, start.well_formed)
 
-add-limit-2 : tie.Need-overflow-add-limit-2 invariant-loop decreases-loop
+add-limit-2 : tie.Need-overflow_add-limit-in-To invariant-loop decreases-loop
 add-limit-2 c =
-    let turn = c.before.before.before.before.before.before.before.before.before.before in
-    let start = c.before.before.before.before.before.before.before.before.before.before.before.before in let so_far = turn.loop.invariant in let lies = escape_lies start.args.text.now start.args.start turn.loop.at _ so_far.1 c.before.before.before.before.before.before.before.before.before.loop-test.true (sym c.before.before.before.before.before.before.before.is-escaped.ensures ∙ not-false _ c.before.before.before.before.before.before.if1.false) c.before.before.before.before.before.if3.true _ c.before.before.before.before.check-escape.ensures _ c.before.before.next.given.1 in omega (arith, lies.0, lies.1, so_far.0, start.well-formed)
+    let turn = c in
+    let start = c in let so_far = turn.loop-at.invariant in let lies = escape_lies start.args.text.now start.args.start turn.loop-at.at _ so_far.1 c.loop-at-test.true (sym c.is_escaped.ensures ∙ not-false _ c.if-not-is_escaped.false) c.if-byte-eq37.true _ c.check_escape.ensures _ c.in-To.is in omega (arith, lies.0, lies.1, so_far.0, start.well_formed)
 
-loop-less-2 : tie.Need-loop-smaller-2 invariant-loop decreases-loop
+loop-less-2 : tie.Need-loop-at-smaller invariant-loop decreases-loop
 loop-less-2 c =
-    let turn = c.before.before.before.before.before.before.before.before.before.before in
-    let start = c.before.before.before.before.before.before.before.before.before.before.before.before in let so_far = turn.loop.invariant in let lies = escape_lies start.args.text.now start.args.start turn.loop.at _ so_far.1 c.before.before.before.before.before.before.before.before.before.loop-test.true (sym c.before.before.before.before.before.before.before.is-escaped.ensures ∙ not-false _ c.before.before.before.before.before.before.if1.false) c.before.before.before.before.before.if3.true _ c.before.before.before.before.check-escape.ensures _ c.before.before.next.given.1 in omega (arith, lies.0, lies.1, so_far.0, start.well-formed)
+    let turn = c in
+    let start = c in let so_far = turn.loop-at.invariant in let lies = escape_lies start.args.text.now start.args.start turn.loop-at.at _ so_far.1 c.loop-at-test.true (sym c.is_escaped.ensures ∙ not-false _ c.if-not-is_escaped.false) c.if-byte-eq37.true _ c.check_escape.ensures _ c.in-To.is in omega (arith, lies.0, lies.1, so_far.0, start.well_formed)
 
-loop-again-2 : tie.Need-loop-preserved-2 invariant-loop decreases-loop
+loop-again-2 : tie.Need-loop-at-preserved invariant-loop decreases-loop
 loop-again-2 c =
-    let turn = c.before.before.before.before.before.before.before.before.before.before in
-    let start = c.before.before.before.before.before.before.before.before.before.before.before.before in let so_far = turn.loop.invariant in escape_to start.args.text.now start.args.start turn.loop.at turn.loop.limit so_far c.before.before.before.before.before.before.before.before.before.loop-test.true (sym c.before.before.before.before.before.before.before.is-escaped.ensures ∙ not-false _ c.before.before.before.before.before.before.if1.false) c.before.before.before.before.before.if3.true _ c.before.before.before.before.check-escape.ensures _ c.before.before.next.given.1 c.if4.false
+    let turn = c in
+    let start = c in let so_far = turn.loop-at.invariant in escape_to start.args.text.now start.args.start turn.loop-at.at turn.loop-at.limit so_far c.loop-at-test.true (sym c.is_escaped.ensures ∙ not-false _ c.if-not-is_escaped.false) c.if-byte-eq37.true _ c.check_escape.ensures _ c.in-To.is c.if-at-limit-2.false
 
-cast-t21 : tie.Need-overflow-cast-t21 invariant-loop decreases-loop
+cast-t21 : tie.Need-overflow_cast-result invariant-loop decreases-loop
 cast-t21 c = search rules
 
-add-t22 : tie.Need-overflow-add-t22 invariant-loop decreases-loop
-add-t22 c = omega (arith, c.before.before.before.before.before.loop-test.true, c.before.before.before.before.before.before.before.before.well-formed)
+add-t22 : tie.Need-overflow_add-result invariant-loop decreases-loop
+add-t22 c = omega (arith, c.loop-at-test.true, c.well_formed)
 
-sub-t23 : tie.Need-overflow-sub-t23 invariant-loop decreases-loop
-sub-t23 c = omega (arith, c.before.before.before.before.before.before.loop.invariant.0)
+sub-t23 : tie.Need-overflow_sub-result invariant-loop decreases-loop
+sub-t23 c = omega (arith, c.loop-at.invariant.0)
 
-returns-4 : tie.Need-returns-4 invariant-loop decreases-loop
+returns-4 : tie.Need-returns-then-byte-eq9 invariant-loop decreases-loop
 returns-4 c =
-    let turn = c.before.before.before.before.before.before in
-    let start = c.before.before.before.before.before.before.before.before in let so_far = turn.loop.invariant in units_end start.args.text.now start.args.start turn.loop.at _ so_far.1 c.before.before.before.before.before.loop-test.true (inl c.if5.true)
+    let turn = c in
+    let start = c in let so_far = turn.loop-at.invariant in units_end start.args.text.now start.args.start turn.loop-at.at _ so_far.1 c.loop-at-test.true (inl c.if-byte-eq9.true)
 
-cast-t24 : tie.Need-overflow-cast-t24 invariant-loop decreases-loop
+cast-t24 : tie.Need-overflow_cast-result-then-byte-eq10 invariant-loop decreases-loop
 cast-t24 c = search rules
 
-add-t25 : tie.Need-overflow-add-t25 invariant-loop decreases-loop
-add-t25 c = omega (arith, c.before.before.before.before.before.before.loop-test.true, c.before.before.before.before.before.before.before.before.before.well-formed)
+add-t25 : tie.Need-overflow_add-result-then-byte-eq10 invariant-loop decreases-loop
+add-t25 c = omega (arith, c.loop-at-test.true, c.well_formed)
 
-sub-t26 : tie.Need-overflow-sub-t26 invariant-loop decreases-loop
-sub-t26 c = omega (arith, c.before.before.before.before.before.before.before.loop.invariant.0)
+sub-t26 : tie.Need-overflow_sub-result-then-byte-eq10 invariant-loop decreases-loop
+sub-t26 c = omega (arith, c.loop-at.invariant.0)
 
-returns-5 : tie.Need-returns-5 invariant-loop decreases-loop
+returns-5 : tie.Need-returns-then-byte-eq10 invariant-loop decreases-loop
 returns-5 c =
-    let turn = c.before.before.before.before.before.before.before in
-    let start = c.before.before.before.before.before.before.before.before.before in let so_far = turn.loop.invariant in units_end start.args.text.now start.args.start turn.loop.at _ so_far.1 c.before.before.before.before.before.before.loop-test.true (inr c.if6.true)
+    let turn = c in
+    let start = c in let so_far = turn.loop-at.invariant in units_end start.args.text.now start.args.start turn.loop-at.at _ so_far.1 c.loop-at-test.true (inr c.if-byte-eq10.true)
 
-returns-6 : tie.Need-returns-6 invariant-loop decreases-loop
+returns-6 : tie.Need-returns-in-loop-at invariant-loop decreases-loop
 returns-6 c =
-    let turn = c.before.before.before.before.before.before.before in
-    let start = c.before.before.before.before.before.before.before.before.before in let so_far = turn.loop.invariant in units_other start.args.text.now start.args.start turn.loop.at _ so_far.1 c.before.before.before.before.before.before.loop-test.true (sym c.before.before.before.before.is-escaped.ensures ∙ not-false _ c.before.before.before.if1.false) c.before.before.if3.false c.before.if5.false c.if6.false
+    let turn = c in
+    let start = c in let so_far = turn.loop-at.invariant in units_other start.args.text.now start.args.start turn.loop-at.at _ so_far.1 c.loop-at-test.true (sym c.is_escaped.ensures ∙ not-false _ c.if-not-is_escaped.false) c.if-byte-eq37.false c.if-byte-eq9.false c.if-byte-eq10.false
 
-returns-7 : tie.Need-returns-7 invariant-loop decreases-loop
-returns-7 c = let start = c.before.before.before in let so_far = c.before.loop.invariant in units_early start.args.text.now start.args.start c.before.loop.at _ so_far.1 c.loop-test.false
+returns-7 : tie.Need-returns invariant-loop decreases-loop
+returns-7 c = let start = c in let so_far = c.loop-at.invariant in units_early start.args.text.now start.args.start c.loop-at.at _ so_far.1 c.loop-at-test.false
 
-pub check-units-spec : {M : Type 1} → statement M
-check-units-spec =
+pub check_units_spec : {M : Type 1} → statement M
+check_units_spec =
     tie.close
     (tie.spec
     invariant-loop
@@ -147,19 +147,19 @@ check-units-spec =
     cast-limit
     add-limit
     loop-holds
-    shared-slice-read-byte
-    is-escaped-requires
-    too-long-requires
+    shared_slice_read-byte
+    is_escaped-requires
+    too_long-requires
     returns
     add_at
     loop-less
     loop-again
-    add-check-escape
-    check-escape-requires
-    enum-known-place
+    add-check_escape
+    check_escape-requires
+    enum_known-place
     returns-2
-    enum-known-next
-    too-long-requires-2
+    enum_known-next
+    too_long-requires-2
     returns-3
     sub-limit
     sub-limit-2

@@ -10,191 +10,191 @@ use borrow.Author.Rules.{rules}
 use Rattle.text_walk.proofs.check.check_values.Statement.{statement}
 use Rattle.text_walk.proofs.check.check_values.Tie as tie
 
-abbrev invariant-loop : tie.invariant-loop
+abbrev invariant-loop : tie.invariant-loop-at
 invariant-loop text start row before at₀ count₀ bytes₀ size₀ at count bytes size = ValuesLeft text start row before at count bytes size
 
-abbrev decreases-loop : tie.decreases-loop
+abbrev decreases-loop : tie.decreases-loop-at
 decreases-loop text start row before at₀ count₀ bytes₀ size₀ at count bytes size = length text - at
 
-loop-holds : tie.Need-loop-init invariant-loop decreases-loop
+loop-holds : tie.Need-loop-at-init invariant-loop decreases-loop
 loop-holds c =
-    let start = c.before in
+    let start = c in
     values_begin _ _ _ _ start.requires.0 start.requires.3
 
-shared-slice-read-byte : tie.Need-shared-slice-read-byte invariant-loop decreases-loop
-shared-slice-read-byte c = omega arith
+shared_slice_read-byte : tie.Need-bounds-text-at invariant-loop decreases-loop
+shared_slice_read-byte c = omega arith
 
-is-digit-requires : tie.Need-is-digit-requires invariant-loop decreases-loop
-is-digit-requires c κs = search rules
+is_digit-requires : tie.Need-is_digit-digit-requires invariant-loop decreases-loop
+is_digit-requires c κs = search rules
 
-returns : tie.Need-returns invariant-loop decreases-loop
+returns : tie.Need-returns-then-not-digit invariant-loop decreases-loop
 returns c =
-    let start = c.before.before.before.before.before.before in
+    let start = c in
     let a = start.args in
-    let turn = c.before.before.before.before.loop in
+    let turn = c.loop-at in
     values_other a.text.now a.start a.row a.before turn.at turn.count turn.bytes turn.size
-    turn.invariant start.requires.1 start.requires.2 start.requires.3 c.before.before.before.loop-test.true
-    (sym c.before.is_digit.ensures ∙ not-true _ c.if1.true)
+    turn.invariant start.requires.1 start.requires.2 start.requires.3 c.loop-at-test.true
+    (sym c.is_digit-digit.ensures ∙ not-true _ c.if-not-digit.true)
 
-returns-2 : tie.Need-returns-2 invariant-loop decreases-loop
+returns-2 : tie.Need-returns-then-full invariant-loop decreases-loop
 returns-2 c =
-    let start = c.before.before.before.before.before.before.before in
+    let start = c in
     let a = start.args in
-    let turn = c.before.before.before.before.before.loop in
+    let turn = c.loop-at in
     values_many a.text.now a.start a.row a.before turn.at turn.count turn.bytes turn.size
     turn.invariant start.requires.1 start.requires.2 start.requires.3
-    c.before.before.before.before.loop-test.true
-    (sym c.before.before.is_digit.ensures ∙ not-false _ c.before.if1.false) _
-    refl (eqb-true _ _ c.if2.true)
+    c.loop-at-test.true
+    (sym c.is_digit-digit.ensures ∙ not-false _ c.if-not-digit.false) _
+    refl (eqb-true _ _ c.if-full.true)
 
-add-check-value : tie.Need-overflow-add-check-value invariant-loop decreases-loop
-add-check-value c = omega arith
+add-check_value : tie.Need-overflow_add-at invariant-loop decreases-loop
+add-check_value c = omega arith
 
-sub-check-value : tie.Need-overflow-sub-check-value invariant-loop decreases-loop
-sub-check-value c = omega (arith, (digit_range (get_or c.before.before.before.before.before.before.before.args.text.now c.before.before.before.before.before.loop.at 0) (sym c.before.before.is_digit.ensures ∙ not-false _ c.before.if1.false)).0)
+sub-check_value : tie.Need-overflow_sub-byte invariant-loop decreases-loop
+sub-check_value c = omega (arith, (digit_range (get_or c.args.text.now c.loop-at.at 0) (sym c.is_digit-digit.ensures ∙ not-false _ c.if-not-digit.false)).0)
 
-cast-check-value : tie.Need-overflow-cast-check-value invariant-loop decreases-loop
-cast-check-value c = omega (arith, (digit_range (get_or c.before.before.before.before.before.before.before.args.text.now c.before.before.before.before.before.loop.at 0) (sym c.before.before.is_digit.ensures ∙ not-false _ c.before.if1.false)).1)
+cast-check_value : tie.Need-overflow_cast-byte invariant-loop decreases-loop
+cast-check_value c = omega (arith, (digit_range (get_or c.args.text.now c.loop-at.at 0) (sym c.is_digit-digit.ensures ∙ not-false _ c.if-not-digit.false)).1)
 
-check-value-requires : tie.Need-check-value-requires invariant-loop decreases-loop
-check-value-requires c κs =
-    let turn = c.before.before.before.before.before.loop in (
+check_value-requires : tie.Need-check_value-requires invariant-loop decreases-loop
+check_value-requires c κs =
+    let turn = c.loop-at in (
       omega arith,
       omega (
         arith,
-        (digit_range (get_or c.before.before.before.before.before.before.before.args.text.now turn.at 0)
-            (sym c.before.before.is_digit.ensures ∙ not-false _ c.before.if1.false)).1,
+        (digit_range (get_or c.args.text.now turn.at 0)
+            (sym c.is_digit-digit.ensures ∙ not-false _ c.if-not-digit.false)).1,
       ),
       turn.invariant.4,
     )
 
-enum-known-refusal : tie.Need-enum-known-refusal invariant-loop decreases-loop
-enum-known-refusal c = search rules
+enum_known-refusal : tie.Need-enum_known-refusal invariant-loop decreases-loop
+enum_known-refusal c = search rules
 
-returns-3 : tie.Need-returns-3 invariant-loop decreases-loop
+returns-3 : tie.Need-returns-in-Broken invariant-loop decreases-loop
 returns-3 c =
-    let start = c.before.before.before.before.before.before.before.before.before.before.before in
+    let start = c in
     let a = start.args in
-    let turn = c.before.before.before.before.before.before.before.before.before.loop in
-    let checked = c.before.before.before.check-value in
+    let turn = c.loop-at in
+    let checked = c.check_value in
     values_broken a.text.now a.start a.row a.before turn.at turn.count turn.bytes turn.size
     turn.invariant start.requires.1 start.requires.2 start.requires.3
-    c.before.before.before.before.before.before.before.before.loop-test.true
-    (sym c.before.before.before.before.before.before.is_digit.ensures ∙ not-false _
-    c.before.before.before.before.before.if1.false) (eqb-false _ _ c.before.before.before.before.if2.false)
-    checked.result checked.ensures _ c.before.refusal.given.1
+    c.loop-at-test.true
+    (sym c.is_digit-digit.ensures ∙ not-false _
+    c.if-not-digit.false) (eqb-false _ _ c.if-full.false)
+    checked.result checked.ensures _ c.in-Broken.is
 
-enum-known-next : tie.Need-enum-known-next invariant-loop decreases-loop
-enum-known-next c = search rules
+enum_known-next : tie.Need-enum_known-next invariant-loop decreases-loop
+enum_known-next c = search rules
 
-add-count : tie.Need-overflow-add-count invariant-loop decreases-loop
-add-count c = omega (arith, c.before.before.before.before.before.before.before.before.before.loop.invariant.5)
+add-count : tie.Need-overflow_add-count invariant-loop decreases-loop
+add-count c = omega (arith, c.loop-at.invariant.5)
 
-add-bytes : tie.Need-overflow-add-bytes invariant-loop decreases-loop
+add-bytes : tie.Need-overflow_add-bytes invariant-loop decreases-loop
 add-bytes c =
-    let start = c.before.before.before.before.before.before.before.before.before.before.before in
+    let start = c in
     let a = start.args in
-    let turn = c.before.before.before.before.before.before.before.before.before.loop in
-    let test = c.before.before.before.before.before.before.before.before.loop-test in
-    let is_digit = c.before.before.before.before.before.before.is_digit in
-    let if1 = c.before.before.before.before.before.if1 in
-    let if2 = c.before.before.before.before.if2 in
-    let checked = c.before.before.before.check-value in
-    let got = c.before.next in
+    let turn = c.loop-at in
+    let test = c.loop-at-test in
+    let is_digit = c.is_digit-digit in
+    let if1 = c.if-not-digit in
+    let if2 = c.if-full in
+    let checked = c.check_value in
+    let got = c.in-Whole in
     omega (
       arith,
       (counts_small a.text.now a.start a.row a.before turn.at turn.count turn.bytes
           turn.size turn.invariant start.requires.1 start.requires.2 start.requires.3 test.true
           (sym is_digit.ensures ∙ not-false _ if1.false) (eqb-false _ _ if2.false) checked.result checked.ensures
-          got.given.0.0 got.given.0.1.0 got.given.0.1.1.0 got.given.0.1.1.1.0 got.given.1).0,
+          got.next got.length got.sum got.last got.is).0,
       (value_lies a.text.now a.start a.row a.before turn.at turn.count turn.bytes turn.size
           turn.invariant start.requires.1 start.requires.2 start.requires.3 test.true
           (sym is_digit.ensures ∙ not-false _ if1.false) (eqb-false _ _ if2.false) checked.result checked.ensures
-          got.given.0.0 got.given.0.1.0 got.given.0.1.1.0 got.given.0.1.1.1.0 got.given.1).1,
-      start.well-formed,
+          got.next got.length got.sum got.last got.is).1,
+      start.well_formed,
       whole_fits a.text.now a.start a.row a.before turn.at turn.count turn.bytes
           turn.size turn.invariant start.requires.1 start.requires.2 start.requires.3 test.true
           (sym is_digit.ensures ∙ not-false _ if1.false) (eqb-false _ _ if2.false) checked.result checked.ensures
-          got.given.0.0 got.given.0.1.0 got.given.0.1.1.0 got.given.0.1.1.1.0 got.given.1,
+          got.next got.length got.sum got.last got.is,
     )
 
-returns-4 : tie.Need-returns-4 invariant-loop decreases-loop
+returns-4 : tie.Need-returns-then-last invariant-loop decreases-loop
 returns-4 c =
-    let start = c.before.before.before.before.before.before.before.before.before.before.before.before in
+    let start = c in
     let a = start.args in
-    let turn = c.before.before.before.before.before.before.before.before.before.before.loop in
-    let checked = c.before.before.before.before.check-value in
-    let got = c.before.before.next in
+    let turn = c.loop-at in
+    let checked = c.check_value in
+    let got = c.in-Whole in
     values_last a.text.now a.start a.row a.before turn.at turn.count turn.bytes turn.size
     turn.invariant start.requires.1 start.requires.2 start.requires.3
-    c.before.before.before.before.before.before.before.before.before.loop-test.true
-    (sym c.before.before.before.before.before.before.before.is_digit.ensures ∙ not-false _
-    c.before.before.before.before.before.before.if1.false)
-    (eqb-false _ _ c.before.before.before.before.before.if2.false) checked.result checked.ensures got.given.0.0
-    got.given.0.1.0 got.given.0.1.1.0 got.given.0.1.1.1.0 got.given.1 c.if3.true
+    c.loop-at-test.true
+    (sym c.is_digit-digit.ensures ∙ not-false _
+    c.if-not-digit.false)
+    (eqb-false _ _ c.if-full.false) checked.result checked.ensures got.next
+    got.length got.sum got.last got.is c.if-last.true
 
-loop-less : tie.Need-loop-smaller invariant-loop decreases-loop
+loop-less : tie.Need-loop-at-smaller invariant-loop decreases-loop
 loop-less c =
-    let start = c.before.before.before.before.before.before.before.before.before.before.before.before in
+    let start = c in
     let a = start.args in
-    let turn = c.before.before.before.before.before.before.before.before.before.before.loop in
-    let test = c.before.before.before.before.before.before.before.before.before.loop-test in
-    let is_digit = c.before.before.before.before.before.before.before.is_digit in
-    let if1 = c.before.before.before.before.before.before.if1 in
-    let if2 = c.before.before.before.before.before.if2 in
-    let checked = c.before.before.before.before.check-value in
-    let got = c.before.before.next in
+    let turn = c.loop-at in
+    let test = c.loop-at-test in
+    let is_digit = c.is_digit-digit in
+    let if1 = c.if-not-digit in
+    let if2 = c.if-full in
+    let checked = c.check_value in
+    let got = c.in-Whole in
     omega (
       arith,
       (value_lies a.text.now a.start a.row a.before turn.at turn.count turn.bytes
           turn.size turn.invariant start.requires.1 start.requires.2 start.requires.3 test.true
           (sym is_digit.ensures ∙ not-false _ if1.false) (eqb-false _ _ if2.false) checked.result checked.ensures
-          got.given.0.0 got.given.0.1.0 got.given.0.1.1.0 got.given.0.1.1.1.0 got.given.1).0,
+          got.next got.length got.sum got.last got.is).0,
       (value_lies a.text.now a.start a.row a.before turn.at turn.count turn.bytes turn.size
           turn.invariant start.requires.1 start.requires.2 start.requires.3 test.true
           (sym is_digit.ensures ∙ not-false _ if1.false) (eqb-false _ _ if2.false) checked.result checked.ensures
-          got.given.0.0 got.given.0.1.0 got.given.0.1.1.0 got.given.0.1.1.1.0 got.given.1).1,
+          got.next got.length got.sum got.last got.is).1,
     )
 
-loop-again : tie.Need-loop-preserved invariant-loop decreases-loop
+loop-again : tie.Need-loop-at-preserved invariant-loop decreases-loop
 loop-again c =
-    let start = c.before.before.before.before.before.before.before.before.before.before.before.before in
+    let start = c in
     let a = start.args in
-    let turn = c.before.before.before.before.before.before.before.before.before.before.loop in
-    let checked = c.before.before.before.before.check-value in
-    let got = c.before.before.next in
+    let turn = c.loop-at in
+    let checked = c.check_value in
+    let got = c.in-Whole in
     values_more a.text.now a.start a.row a.before turn.at turn.count turn.bytes turn.size
     turn.invariant start.requires.1 start.requires.2 start.requires.3
-    c.before.before.before.before.before.before.before.before.before.loop-test.true
-    (sym c.before.before.before.before.before.before.before.is_digit.ensures ∙ not-false _
-    c.before.before.before.before.before.before.if1.false)
-    (eqb-false _ _ c.before.before.before.before.before.if2.false) checked.result checked.ensures got.given.0.0
-    got.given.0.1.0 got.given.0.1.1.0 got.given.0.1.1.1.0 got.given.1 c.if3.false
+    c.loop-at-test.true
+    (sym c.is_digit-digit.ensures ∙ not-false _
+    c.if-not-digit.false)
+    (eqb-false _ _ c.if-full.false) checked.result checked.ensures got.next
+    got.length got.sum got.last got.is c.if-last.false
 
-returns-5 : tie.Need-returns-5 invariant-loop decreases-loop
+returns-5 : tie.Need-returns invariant-loop decreases-loop
 returns-5 c =
-    let start = c.before.before.before in
-    values_early _ _ _ _ _ _ _ _ c.before.loop.invariant start.requires.1 start.requires.2 start.requires.3
-    c.loop-test.false
+    let start = c in
+    values_early _ _ _ _ _ _ _ _ c.loop-at.invariant start.requires.1 start.requires.2 start.requires.3
+    c.loop-at-test.false
 
-pub check-values-spec : {M : Type 1} → statement M
-check-values-spec =
+pub check_values_spec : {M : Type 1} → statement M
+check_values_spec =
     tie.close
     (tie.spec
     invariant-loop
     decreases-loop
     loop-holds
-    shared-slice-read-byte
-    is-digit-requires
+    shared_slice_read-byte
+    is_digit-requires
     returns
     returns-2
-    add-check-value
-    sub-check-value
-    cast-check-value
-    check-value-requires
-    enum-known-refusal
+    add-check_value
+    sub-check_value
+    cast-check_value
+    check_value-requires
+    enum_known-refusal
     returns-3
-    enum-known-next
+    enum_known-next
     add-count
     add-bytes
     returns-4

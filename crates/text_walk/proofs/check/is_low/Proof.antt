@@ -6,75 +6,75 @@ use Rattle.text_walk.proofs.DigitLaws.{low_at}
 use Rattle.text_walk.proofs.check.is_low.Statement.{statement}
 use Rattle.text_walk.proofs.check.is_low.Tie as tie
 
-returns : tie.Need-returns
+returns : tie.Need-returns-in-48
 unfolding capital_value
-returns c = λ _. low_at c.match.keys1 refl
+returns c = λ _. low_at c.in-48.is refl
 
-returns-2 : tie.Need-returns-2
+returns-2 : tie.Need-returns-in-49
 unfolding capital_value
-returns-2 c = λ _. low_at c.match.keys2 refl
+returns-2 c = λ _. low_at c.in-49.is refl
 
-returns-3 : tie.Need-returns-3
+returns-3 : tie.Need-returns-in-50
 unfolding capital_value
-returns-3 c = λ _. low_at c.match.keys3 refl
+returns-3 c = λ _. low_at c.in-50.is refl
 
-returns-4 : tie.Need-returns-4
+returns-4 : tie.Need-returns-in-51
 unfolding capital_value
-returns-4 c = λ _. low_at c.match.keys4 refl
+returns-4 c = λ _. low_at c.in-51.is refl
 
-returns-5 : tie.Need-returns-5
+returns-5 : tie.Need-returns-in-52
 unfolding capital_value
-returns-5 c = λ _. low_at c.match.keys5 refl
+returns-5 c = λ _. low_at c.in-52.is refl
 
-returns-6 : tie.Need-returns-6
+returns-6 : tie.Need-returns-in-53
 unfolding capital_value
-returns-6 c = λ _. low_at c.match.keys6 refl
+returns-6 c = λ _. low_at c.in-53.is refl
 
-returns-7 : tie.Need-returns-7
+returns-7 : tie.Need-returns-in-54
 unfolding capital_value
-returns-7 c = λ _. low_at c.match.keys7 refl
+returns-7 c = λ _. low_at c.in-54.is refl
 
-returns-8 : tie.Need-returns-8
+returns-8 : tie.Need-returns-in-55
 unfolding capital_value
-returns-8 c = λ _. low_at c.match.keys8 refl
+returns-8 c = λ _. low_at c.in-55.is refl
 
-returns-9 : tie.Need-returns-9
+returns-9 : tie.Need-returns-in-56
 unfolding capital_value
-returns-9 c = λ _. low_at c.match.keys9 refl
+returns-9 c = λ _. low_at c.in-56.is refl
 
-returns-10 : tie.Need-returns-10
+returns-10 : tie.Need-returns-in-57
 unfolding capital_value
-returns-10 c = λ _. low_at c.match.keys10 refl
+returns-10 c = λ _. low_at c.in-57.is refl
 
-returns-11 : tie.Need-returns-11
+returns-11 : tie.Need-returns-in-65
 unfolding capital_value
-returns-11 c = λ _. low_at c.match.keys11 refl
+returns-11 c = λ _. low_at c.in-65.is refl
 
-returns-12 : tie.Need-returns-12
+returns-12 : tie.Need-returns-in-66
 unfolding capital_value
-returns-12 c = λ _. low_at c.match.keys12 refl
+returns-12 c = λ _. low_at c.in-66.is refl
 
-returns-13 : tie.Need-returns-13
+returns-13 : tie.Need-returns-in-67
 unfolding capital_value
-returns-13 c = λ _. low_at c.match.keys13 refl
+returns-13 c = λ _. low_at c.in-67.is refl
 
-returns-14 : tie.Need-returns-14
+returns-14 : tie.Need-returns-in-68
 unfolding capital_value
-returns-14 c = λ _. low_at c.match.keys14 refl
+returns-14 c = λ _. low_at c.in-68.is refl
 
-returns-15 : tie.Need-returns-15
+returns-15 : tie.Need-returns-in-69
 unfolding capital_value
-returns-15 c = λ _. low_at c.match.keys15 refl
+returns-15 c = λ _. low_at c.in-69.is refl
 
-returns-16 : tie.Need-returns-16
+returns-16 : tie.Need-returns-in-70
 unfolding capital_value
-returns-16 c = λ _. low_at c.match.keys16 refl
+returns-16 c = λ _. low_at c.in-70.is refl
 
-returns-17 : tie.Need-returns-17
+returns-17 : tie.Need-returns-in_default
 returns-17 c = λ e. absurd (false≢true e)
 
-pub is-low-spec : {M : Type 1} → statement M
-is-low-spec =
+pub is_low_spec : {M : Type 1} → statement M
+is_low_spec =
     tie.close
     (tie.spec
     returns

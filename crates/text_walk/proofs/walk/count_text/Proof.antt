@@ -7,101 +7,101 @@ use borrow.Author.Rules.{rules}
 use Rattle.text_walk.proofs.walk.count_text.Statement.{statement}
 use Rattle.text_walk.proofs.walk.count_text.Tie as tie
 
-abbrev invariant-loop : tie.invariant-loop
+abbrev invariant-loop : tie.invariant-loop-at
 invariant-loop text at₀ rows₀ values₀ bytes₀ size₀ at rows values bytes size = TextLeft text at rows values bytes size
 
-abbrev decreases-loop : tie.decreases-loop
+abbrev decreases-loop : tie.decreases-loop-at
 decreases-loop text at₀ rows₀ values₀ bytes₀ size₀ at rows values bytes size = length text - at
 
-loop-holds : tie.Need-loop-init invariant-loop decreases-loop
+loop-holds : tie.Need-loop-at-init invariant-loop decreases-loop
 loop-holds c = text_begins _
 
-check-line-requires : tie.Need-check-line-requires invariant-loop decreases-loop
-check-line-requires c κs =
-    let turn = c.before.loop in
-    (c.loop-test.true, turn.invariant.6, turn.invariant.5)
+check_line-requires : tie.Need-check_line-requires invariant-loop decreases-loop
+check_line-requires c κs =
+    let turn = c.loop-at in
+    (c.loop-at-test.true, turn.invariant.6, turn.invariant.5)
 
-enum-known-refusal : tie.Need-enum-known-refusal invariant-loop decreases-loop
-enum-known-refusal c = search rules
+enum_known-refusal : tie.Need-enum_known-refusal invariant-loop decreases-loop
+enum_known-refusal c = search rules
 
-returns : tie.Need-returns invariant-loop decreases-loop
+returns : tie.Need-returns-in-Failed invariant-loop decreases-loop
 returns c =
-    let turn = c.before.before.before.before.before.loop in
-    let check-line = c.before.before.before.check-line in
-    text_stopped c.before.before.before.before.before.before.before.args.text.now turn.at turn.rows
+    let turn = c.loop-at in
+    let check-line = c.check_line in
+    text_stopped c.args.text.now turn.at turn.rows
     turn.values turn.bytes turn.size turn.invariant check-line.result check-line.ensures _
-    c.before.refusal.given.1
+    c.in-Failed.is
 
-enum-known-next : tie.Need-enum-known-next invariant-loop decreases-loop
-enum-known-next c = search rules
+enum_known-next : tie.Need-enum_known-next invariant-loop decreases-loop
+enum_known-next c = search rules
 
-add-rows : tie.Need-overflow-add-rows invariant-loop decreases-loop
-add-rows c = omega (arith, c.before.before.before.before.before.loop.invariant.6)
+add-rows : tie.Need-overflow_add-rows invariant-loop decreases-loop
+add-rows c = omega (arith, c.loop-at.invariant.6)
 
-add-values : tie.Need-overflow-add-values invariant-loop decreases-loop
+add-values : tie.Need-overflow_add-values invariant-loop decreases-loop
 add-values c =
-    let turn = c.before.before.before.before.before.loop in
-    let check-line = c.before.before.before.check-line in
-    let got = c.before.next in
+    let turn = c.loop-at in
+    let check-line = c.check_line in
+    let got = c.in-Ended in
     omega (
       arith,
-      (sums_fit c.before.before.before.before.before.before.before.args.text.now turn.at
+      (sums_fit c.args.text.now turn.at
           turn.rows turn.values turn.bytes turn.size turn.invariant check-line.result check-line.ensures
-          got.given.0.0 got.given.0.1.0 got.given.0.1.1.0 got.given.0.1.1.1.0 got.given.1).0,
+          got.next got.more got.blob got.sum got.is).0,
     )
 
-add-bytes : tie.Need-overflow-add-bytes invariant-loop decreases-loop
+add-bytes : tie.Need-overflow_add-bytes invariant-loop decreases-loop
 add-bytes c =
-    let turn = c.before.before.before.before.before.loop in
-    let check-line = c.before.before.before.check-line in
-    let got = c.before.next in
+    let turn = c.loop-at in
+    let check-line = c.check_line in
+    let got = c.in-Ended in
     omega (
       arith,
-      (sums_fit c.before.before.before.before.before.before.before.args.text.now turn.at
+      (sums_fit c.args.text.now turn.at
           turn.rows turn.values turn.bytes turn.size turn.invariant check-line.result check-line.ensures
-          got.given.0.0 got.given.0.1.0 got.given.0.1.1.0 got.given.0.1.1.1.0 got.given.1).1,
+          got.next got.more got.blob got.sum got.is).1,
     )
 
-loop-less : tie.Need-loop-smaller invariant-loop decreases-loop
+loop-less : tie.Need-loop-at-smaller invariant-loop decreases-loop
 loop-less c =
-    let start = c.before.before.before.before.before.before.before in
+    let start = c in
     let a = start.args in
-    let turn = c.before.before.before.before.before.loop in
-    let check-line = c.before.before.before.check-line in
-    let got = c.before.next in
+    let turn = c.loop-at in
+    let check-line = c.check_line in
+    let got = c.in-Ended in
     omega (
       arith,
       (line_lies a.text.now turn.at turn.rows turn.values turn.bytes turn.size turn.invariant
-          check-line.result check-line.ensures got.given.0.0 got.given.0.1.0 got.given.0.1.1.0
-          got.given.0.1.1.1.0 got.given.1).0,
+          check-line.result check-line.ensures got.next got.more got.blob
+          got.sum got.is).0,
       (line_lies a.text.now turn.at turn.rows turn.values
-          turn.bytes turn.size turn.invariant check-line.result check-line.ensures got.given.0.0
-          got.given.0.1.0 got.given.0.1.1.0 got.given.0.1.1.1.0 got.given.1).1,
+          turn.bytes turn.size turn.invariant check-line.result check-line.ensures got.next
+          got.more got.blob got.sum got.is).1,
     )
 
-loop-again : tie.Need-loop-preserved invariant-loop decreases-loop
+loop-again : tie.Need-loop-at-preserved invariant-loop decreases-loop
 loop-again c =
-    let turn = c.before.before.before.before.before.loop in
-    let check-line = c.before.before.before.check-line in
-    let got = c.before.next in
-    text_goes c.before.before.before.before.before.before.before.args.text.now turn.at turn.rows
-    turn.values turn.bytes turn.size turn.invariant check-line.result check-line.ensures got.given.0.0
-    got.given.0.1.0 got.given.0.1.1.0 got.given.0.1.1.1.0 got.given.1
+    let turn = c.loop-at in
+    let check-line = c.check_line in
+    let got = c.in-Ended in
+    text_goes c.args.text.now turn.at turn.rows
+    turn.values turn.bytes turn.size turn.invariant check-line.result check-line.ensures got.next
+    got.more got.blob got.sum got.is
 
-returns-2 : tie.Need-returns-2 invariant-loop decreases-loop
-returns-2 c = text_done _ _ _ _ _ _ c.before.loop.invariant c.loop-test.false
+returns-2 : tie.Need-returns invariant-loop decreases-loop
+returns-2 c = text_done _ _ _ _ _ _ c.loop-at.invariant c.loop-at-test.false
 
-pub count-text-spec : {M : Type 1} → statement M
-count-text-spec =
+pub count_text_spec : {M : Type 1} → statement M
+count_text_spec =
     tie.close
     (tie.spec
     invariant-loop
     decreases-loop
     loop-holds
-    check-line-requires
-    enum-known-refusal
+    check_line-requires
+    enum_known-refusal
     returns
-    enum-known-next
+    enum_known-next
     add-rows
     add-values
     add-bytes

@@ -7,122 +7,122 @@ use borrow.Author.Rules.{rules}
 use Rattle.wire_read.proofs.fill.read_payload.Statement.{statement}
 use Rattle.wire_read.proofs.fill.read_payload.Tie as tie
 
-cast-kind-of : tie.Need-overflow-cast-kind-of
-cast-kind-of c = search rules
+cast-kind_of : tie.Need-overflow_cast-header
+cast-kind_of c = search rules
 
-kind-of-requires : tie.Need-kind-of-requires
-kind-of-requires c κs = search rules
+kind_of-requires : tie.Need-kind_of-requires
+kind_of-requires c κs = search rules
 
-enum_told : tie.Need-enum-told
+enum_told : tie.Need-enum_told-1
 enum_told c = search rules
 
-add-t8 : tie.Need-overflow-add-t8
+add-t8 : tie.Need-overflow_add-result
 add-t8 c =
-    let start = c.before.before.before.before.before in
+    let start = c in
     omega (arith, next_value_far start.args.input.now start.args.at, start.requires.0)
 
-enum-told-2 : tie.Need-enum-told-2
-enum-told-2 c = search rules
+enum_told-2 : tie.Need-enum_told-in-Unknown
+enum_told-2 c = search rules
 
-add-t9 : tie.Need-overflow-add-t9
+add-t9 : tie.Need-overflow_add-result-in-Unknown
 add-t9 c =
-    let start = c.before.before.before.before.before in
+    let start = c in
     omega (arith, next_value_far start.args.input.now start.args.at, start.requires.0)
 
-enum-told-3 : tie.Need-enum-told-3
-enum-told-3 c = search rules
+enum_told-3 : tie.Need-enum_told-in-Scalar
+enum_told-3 c = search rules
 
-cast-bits-of : tie.Need-overflow-cast-bits-of
-cast-bits-of c = search rules
+cast-bits_of : tie.Need-overflow_cast-header-in-Scalar
+cast-bits_of c = search rules
 
-add-read-u64 : tie.Need-overflow-add-read-u64
-add-read-u64 c =
-    let start = c.before.before.before.before.before.before in
+add-read_u64 : tie.Need-overflow_add-at
+add-read_u64 c =
+    let start = c in
     omega (arith, next_value_far start.args.input.now start.args.at, start.requires.0)
 
-read-u64-requires : tie.Need-read-u64-requires
-read-u64-requires c κs = search rules
+read_u64-requires : tie.Need-read_u64-requires
+read_u64-requires c κs = search rules
 
-bits-of-requires : tie.Need-bits-of-requires
-bits-of-requires c κs = search rules
+bits_of-requires : tie.Need-bits_of-requires
+bits_of-requires c κs = search rules
 
-add-t14 : tie.Need-overflow-add-t14
+add-t14 : tie.Need-overflow_add-result-in-Scalar
 add-t14 c =
-    let start = c.before.before.before.before.before.before.before.before in
+    let start = c in
     omega (arith, next_value_far start.args.input.now start.args.at, start.requires.0)
 
-add-t15 : tie.Need-overflow-add-t15
+add-t15 : tie.Need-overflow_add-result-in-Scalar-2
 add-t15 c =
-    let start = c.before.before.before.before.before.before.before.before in
-    let scalar = kind_scalar start.args.header.kind _ c.before.before.before.before.before.kind-of.ensures c.before.before.before.enum-told3.given.1 in
+    let start = c in
+    let scalar = kind_scalar start.args.header.kind _ c.kind_of.ensures c.in-Scalar.is in
     omega (arith, scalar_next start.args.input.now start.args.at start.args.header start.requires.1 scalar.0 scalar.1, start.requires.0)
 
-enum-told-4 : tie.Need-enum-told-4
-enum-told-4 c = search rules
+enum_told-4 : tie.Need-enum_told-in-Blob
+enum_told-4 c = search rules
 
-add-t16 : tie.Need-overflow-add-t16
+add-t16 : tie.Need-overflow_add-result-in-Blob
 add-t16 c =
-    let start = c.before.before.before.before.before in
+    let start = c in
     omega (arith, next_value_far start.args.input.now start.args.at, start.requires.0)
 
-cast-t18 : tie.Need-overflow-cast-t18
+cast-t18 : tie.Need-overflow_cast-result
 cast-t18 c = search rules
 
-add-t19 : tie.Need-overflow-add-t19
+add-t19 : tie.Need-overflow_add-result-in-Blob-2
 add-t19 c =
-    let start = c.before.before.before.before.before in
+    let start = c in
     omega (arith, next_value_far start.args.input.now start.args.at, start.requires.0)
 
 padded-requires : tie.Need-padded-requires
 padded-requires c κs = search rules
 
-add-t21 : tie.Need-overflow-add-t21
+add-t21 : tie.Need-overflow_add-result-in-Blob-3
 add-t21 c =
-    let start = c.before.before.before.before.before.before in
-    let blob = kind_blob start.args.header.kind _ c.before.before.before.kind-of.ensures c.before.enum-told4.given.1 in
+    let start = c in
+    let blob = kind_blob start.args.header.kind _ c.kind_of.ensures c.in-Blob.is in
     omega (arith, blob_next start.args.input.now start.args.at start.args.header start.requires.1 blob.0 (omega (arith, blob.1)), c.padded.ensures, start.requires.0)
 
-returns : tie.Need-returns
+returns : tie.Need-returns-in-Null
 returns c =
-    let start = c.before.before.before.before.before in
-    null_holds start.args.input.now start.args.at start.args.header start.requires.1 (kind_null start.args.header.kind _ c.before.before.kind-of.ensures c.enum_told.given.1)
+    let start = c in
+    null_holds start.args.input.now start.args.at start.args.header start.requires.1 (kind_null start.args.header.kind _ c.kind_of.ensures c.in-Null.is)
 
-returns-2 : tie.Need-returns-2
+returns-2 : tie.Need-returns-in-Unknown
 returns-2 c =
-    let start = c.before.before.before.before.before in
-    let none = kind_unknown start.args.header.kind _ c.before.before.kind-of.ensures c.enum-told2.given.1 in
+    let start = c in
+    let none = kind_unknown start.args.header.kind _ c.kind_of.ensures c.in-Unknown.is in
     unknown_holds start.args.input.now start.args.at start.args.header start.requires.1 none.1 none.2
 
-returns-3 : tie.Need-returns-3
+returns-3 : tie.Need-returns-in-Scalar
 returns-3 c =
-    let start = c.before.before.before.before.before.before.before.before in
-    let scalar = kind_scalar start.args.header.kind _ c.before.before.before.before.before.kind-of.ensures c.before.before.before.enum-told3.given.1 in
-    scalar_holds start.args.input.now start.args.at start.args.header start.requires.1 scalar.0 scalar.1 _ _ c.before.read_u64.ensures c.bits_of.ensures
+    let start = c in
+    let scalar = kind_scalar start.args.header.kind _ c.kind_of.ensures c.in-Scalar.is in
+    scalar_holds start.args.input.now start.args.at start.args.header start.requires.1 scalar.0 scalar.1 _ _ c.read_u64.ensures c.bits_of.ensures
 
-returns-4 : tie.Need-returns-4
+returns-4 : tie.Need-returns-in-Blob
 returns-4 c =
-    let start = c.before.before.before.before.before.before in
-    let blob = kind_blob start.args.header.kind _ c.before.before.before.kind-of.ensures c.before.enum-told4.given.1 in
+    let start = c in
+    let blob = kind_blob start.args.header.kind _ c.kind_of.ensures c.in-Blob.is in
     blob_holds start.args.input.now start.args.at start.args.header start.requires.1 blob.0 (omega (arith, blob.1)) _ c.padded.ensures
 
-pub read-payload-spec : {M : Type 1} → statement M
-read-payload-spec =
+pub read_payload_spec : {M : Type 1} → statement M
+read_payload_spec =
     tie.close
     (tie.spec
-    cast-kind-of
-    kind-of-requires
+    cast-kind_of
+    kind_of-requires
     enum_told
     add-t8
-    enum-told-2
+    enum_told-2
     add-t9
-    enum-told-3
-    cast-bits-of
-    add-read-u64
-    read-u64-requires
-    bits-of-requires
+    enum_told-3
+    cast-bits_of
+    add-read_u64
+    read_u64-requires
+    bits_of-requires
     add-t14
     add-t15
-    enum-told-4
+    enum_told-4
     add-t16
     cast-t18
     add-t19

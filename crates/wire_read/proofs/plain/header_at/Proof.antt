@@ -6,31 +6,31 @@ use Rattle.wire_read.proofs.PlainLaws.{header_lent}
 use Rattle.wire_read.proofs.plain.header_at.Statement.{statement}
 use Rattle.wire_read.proofs.plain.header_at.Tie as tie
 
-add-read-header : tie.Need-overflow-add-read-header
-add-read-header c = omega arith
+add-read_header : tie.Need-overflow_add-at
+add-read_header c = omega arith
 
-sub-read-header : tie.Need-overflow-sub-read-header
-sub-read-header c = omega arith
+sub-read_header : tie.Need-slice_bounds-read_header-count
+sub-read_header c = omega arith
 
-part-read-header-start : tie.Need-slice-bounds-read-header-start
-part-read-header-start c = omega arith
+part-read_header-start : tie.Need-slice_bounds-read_header-start
+part-read_header-start c = omega arith
 
-part-read-header-end : tie.Need-slice-bounds-read-header-end
-part-read-header-end c = omega arith
+part-read_header-end : tie.Need-slice_bounds-read_header-end
+part-read_header-end c = omega arith
 
-read-header-requires : tie.Need-read-header-requires
-read-header-requires c κs = search rules
+read_header-requires : tie.Need-read_header-requires
+read_header-requires c κs = search rules
 
 returns : tie.Need-returns
-returns c = c.read-header.ensures ∙ header_lent _ _
+returns c = c.read_header.ensures ∙ header_lent _ _
 
-pub header-at-spec : {M : Type 1} → statement M
-header-at-spec =
+pub header_at_spec : {M : Type 1} → statement M
+header_at_spec =
     tie.close
     (tie.spec
-    add-read-header
-    sub-read-header
-    part-read-header-start
-    part-read-header-end
-    read-header-requires
+    add-read_header
+    sub-read_header
+    part-read_header-start
+    part-read_header-end
+    read_header-requires
     returns)

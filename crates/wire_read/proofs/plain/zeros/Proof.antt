@@ -5,44 +5,44 @@ use Rattle.wire_read.proofs.PlainLaws.{ZerosLeft, zeros_not, zeros_go, zeros_end
 use Rattle.wire_read.proofs.plain.zeros.Statement.{statement}
 use Rattle.wire_read.proofs.plain.zeros.Tie as tie
 
-abbrev invariant-loop : tie.invariant-loop
+abbrev invariant-loop : tie.invariant-loop-left
 invariant-loop input count start left₀ at₀ left at = ZerosLeft input count start left at
 
-abbrev decreases-loop : tie.decreases-loop
+abbrev decreases-loop : tie.decreases-loop-left
 decreases-loop input count start left₀ at₀ left at = left
 
-loop-holds : tie.Need-loop-init invariant-loop decreases-loop
+loop-holds : tie.Need-loop-left-init invariant-loop decreases-loop
 loop-holds c = (c.requires, refl)
 
-shared-slice-read-if1 : tie.Need-shared-slice-read-if1 invariant-loop decreases-loop
-shared-slice-read-if1 c = omega arith
+shared_slice_read-if1 : tie.Need-bounds-input-at invariant-loop decreases-loop
+shared_slice_read-if1 c = omega arith
 
-returns : tie.Need-returns invariant-loop decreases-loop
-returns c = zeros_not _ _ _ _ _ c.before.before.before.loop.invariant c.before.before.loop-test.true c.if1.true
+returns : tie.Need-returns-then-input-at-ne0 invariant-loop decreases-loop
+returns c = zeros_not _ _ _ _ _ c.loop-left.invariant c.loop-left-test.true c.if-input-at-ne0.true
 
-add_at : tie.Need-overflow-add-at invariant-loop decreases-loop
+add_at : tie.Need-overflow_add-at invariant-loop decreases-loop
 add_at c = omega arith
 
-sub-left : tie.Need-overflow-sub-left invariant-loop decreases-loop
+sub-left : tie.Need-overflow_sub-left invariant-loop decreases-loop
 sub-left c = omega arith
 
-loop-less : tie.Need-loop-smaller invariant-loop decreases-loop
+loop-less : tie.Need-loop-left-smaller invariant-loop decreases-loop
 loop-less c = omega arith
 
-loop-again : tie.Need-loop-preserved invariant-loop decreases-loop
-loop-again c = zeros_go _ _ _ _ _ c.before.before.before.loop.invariant c.before.before.loop-test.true c.if1.false
+loop-again : tie.Need-loop-left-preserved invariant-loop decreases-loop
+loop-again c = zeros_go _ _ _ _ _ c.loop-left.invariant c.loop-left-test.true c.if-input-at-ne0.false
 
-returns-2 : tie.Need-returns-2 invariant-loop decreases-loop
-returns-2 c = zeros_end _ _ _ _ _ c.before.loop.invariant c.loop-test.false
+returns-2 : tie.Need-returns invariant-loop decreases-loop
+returns-2 c = zeros_end _ _ _ _ _ c.loop-left.invariant c.loop-left-test.false
 
-pub zeros-spec : {M : Type 1} → statement M
-zeros-spec =
+pub zeros_spec : {M : Type 1} → statement M
+zeros_spec =
     tie.close
     (tie.spec
     invariant-loop
     decreases-loop
     loop-holds
-    shared-slice-read-if1
+    shared_slice_read-if1
     returns
     add_at
     sub-left

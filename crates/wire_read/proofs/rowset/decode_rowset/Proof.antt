@@ -5,69 +5,69 @@ use borrow.Author.Rules.{rules}
 use Rattle.wire_read.proofs.rowset.decode_rowset.Statement.{statement}
 use Rattle.wire_read.proofs.rowset.decode_rowset.Tie as tie
 
-walk-rowset-requires : tie.Need-walk-rowset-requires
-walk-rowset-requires c κs = search rules
+walk_rowset-requires : tie.Need-walk_rowset-requires
+walk_rowset-requires c κs = search rules
 
-enum-known-refusal : tie.Need-enum-known-refusal
-enum-known-refusal c = search rules
+enum_known-refusal : tie.Need-enum_known-refusal
+enum_known-refusal c = search rules
 
-enum-known-entries : tie.Need-enum-known-entries
-enum-known-entries c = search rules
+enum_known-entries : tie.Need-enum_known-entries
+enum_known-entries c = search rules
 
-read-u64-requires : tie.Need-read-u64-requires
-read-u64-requires c κs = search rules
+read_u64-requires : tie.Need-read_u64-count-requires
+read_u64-requires c κs = search rules
 
-returns : tie.Need-returns
+returns : tie.Need-returns-then-rows-count
 returns c =
-    let start = c.before.before.before.before.before.before.before.before.before in
-    no_rows start.args.input.now start.args.rows.now start.args.values.now _ c.before.before.before.before.before.walk-rowset.ensures _ _ _ c.before.before.before.entries.given.1 c.before.read_u64.ensures c.if1.true
+    let start = c in
+    no_rows start.args.input.now start.args.rows.now start.args.values.now _ c.walk_rowset.ensures _ _ _ c.in-At.is c.read_u64-count.ensures c.if-rows-count.true
 
-returns-2 : tie.Need-returns-2
+returns-2 : tie.Need-returns-then-room-entries
 returns-2 c =
-    let start = c.before.before.before.before.before.before.before.before.before.before in
-    no_values start.args.input.now start.args.rows.now start.args.values.now _ c.before.before.before.before.before.before.walk-rowset.ensures _ _ _ c.before.before.before.before.entries.given.1 c.before.before.read_u64.ensures c.before.if1.false c.if2.true
+    let start = c in
+    no_values start.args.input.now start.args.rows.now start.args.values.now _ c.walk_rowset.ensures _ _ _ c.in-At.is c.read_u64-count.ensures c.if-rows-count.false c.if-room-entries.true
 
-fill-rows-requires : tie.Need-fill-rows-requires
-fill-rows-requires c κs =
-    let start = c.before.before.before.before.before.before.before.before.before.before.before.before in
-    let walk-rowset = c.before.before.before.before.before.before.before.before.walk-rowset in
-    let entries = c.before.before.before.before.before.before.entries in
-    let read_u64 = c.before.before.before.before.read_u64 in
-    let if1 = c.before.before.before.if1 in (
-      decode_lies start.args.input.now start.args.rows.now start.args.values.now _ walk-rowset.ensures _ _ _ entries.given.1 read_u64.ensures,
+fill_rows-requires : tie.Need-fill_rows-requires
+fill_rows-requires c κs =
+    let start = c in
+    let walk-rowset = c.walk_rowset in
+    let entries = c.in-At in
+    let read_u64 = c.read_u64-count in
+    let if1 = c.if-rows-count in (
+      decode_lies start.args.input.now start.args.rows.now start.args.values.now _ walk-rowset.ensures _ _ _ entries.is read_u64.ensures,
       if1.false,
-      decode_room start.args.input.now start.args.rows.now start.args.values.now _ walk-rowset.ensures _ _ _ entries.given.1 read_u64.ensures if1.false c.before.before.if2.false,
+      decode_room start.args.input.now start.args.rows.now start.args.values.now _ walk-rowset.ensures _ _ _ entries.is read_u64.ensures if1.false c.if-room-entries.false,
     )
 
-returns-3 : tie.Need-returns-3
+returns-3 : tie.Need-returns-in-Stopped
 returns-3 c =
-    let start = c.before.before.before.before.before.before.before in
-    decode_refused start.args.input.now start.args.rows.now start.args.values.now _ c.before.before.before.walk-rowset.ensures _ c.before.refusal.given.1
+    let start = c in
+    decode_refused start.args.input.now start.args.rows.now start.args.values.now _ c.walk_rowset.ensures _ c.in-Stopped.is
 
-same_length : tie.Need-same-length
+same_length : tie.Need-shape_of-rows
 same_length c = search rules
 
-same-length-2 : tie.Need-same-length-2
-same-length-2 c = search rules
+same_length-2 : tie.Need-shape_of-values
+same_length-2 c = search rules
 
-returns-4 : tie.Need-returns-4
+returns-4 : tie.Need-returns-else-room-entries
 returns-4 c =
-    let start = c.before.before.before.before.before.before.before.before.before.before.before.before.before.before.before.before.before in
-    let fill-rows = c.before.before.before.before.fill-rows in
-    decode_read start.args.input.now start.args.rows.now start.args.values.now _ c.before.before.before.before.before.before.before.before.before.before.before.before.before.walk-rowset.ensures _ _ _ c.before.before.before.before.before.before.before.before.before.before.before.entries.given.1 c.before.before.before.before.before.before.before.before.before.read_u64.ensures c.before.before.before.before.before.before.before.before.if1.false c.before.before.before.before.before.before.before.if2.false _ _ fill-rows.ensures.0 fill-rows.ensures.1
+    let start = c in
+    let fill-rows = c.fill_rows in
+    decode_read start.args.input.now start.args.rows.now start.args.values.now _ c.walk_rowset.ensures _ _ _ c.in-At.is c.read_u64-count.ensures c.if-rows-count.false c.if-room-entries.false _ _ fill-rows.ensures.0 fill-rows.ensures.1
 
-pub decode-rowset-spec : {M : Type 1} → statement M
-decode-rowset-spec =
+pub decode_rowset_spec : {M : Type 1} → statement M
+decode_rowset_spec =
     tie.close
     (tie.spec
-    walk-rowset-requires
-    enum-known-refusal
-    enum-known-entries
-    read-u64-requires
+    walk_rowset-requires
+    enum_known-refusal
+    enum_known-entries
+    read_u64-requires
     returns
     returns-2
-    fill-rows-requires
+    fill_rows-requires
     returns-3
     same_length
-    same-length-2
+    same_length-2
     returns-4)

@@ -6,29 +6,29 @@ use borrow.Author.Rules.{rules}
 use Rattle.wire_read.proofs.walk.walk_rowset.Statement.{statement}
 use Rattle.wire_read.proofs.walk.walk_rowset.Tie as tie
 
-need-at-requires : tie.Need-need-at-requires
-need-at-requires c κs = search rules
+need_at-requires : tie.Need-need_at-requires
+need_at-requires c κs = search rules
 
-enum-known-refusal : tie.Need-enum-known-refusal
-enum-known-refusal c = search rules
+enum_known-refusal : tie.Need-enum_known-refusal
+enum_known-refusal c = search rules
 
-enum_told : tie.Need-enum-told
+enum_told : tie.Need-enum_told-1
 enum_told c = search rules
 
-walk-body-requires : tie.Need-walk-body-requires
-walk-body-requires c κs =
-    let start = c.before.before.before.before in
-    omega (arith, enough_room start.args.input.now 0 8 _ c.before.before.need-at.ensures c.enum_told.given.1)
+walk_body-requires : tie.Need-walk_body-requires
+walk_body-requires c κs =
+    let start = c in
+    omega (arith, enough_room start.args.input.now 0 8 _ c.need_at.ensures c.in-Enough.is)
 
-returns : tie.Need-returns
+returns : tie.Need-returns-in-Short
 returns c =
-    let start = c.before.before.before.before.before in
-    head_short start.args.input.now _ c.before.before.before.need-at.ensures _ c.before.refusal.given.1
+    let start = c in
+    head_short start.args.input.now _ c.need_at.ensures _ c.in-Short.is
 
-returns-2 : tie.Need-returns-2
+returns-2 : tie.Need-returns-in-Enough
 returns-2 c = search rules
 
-pub walk-rowset-spec : {M : Type 1} → statement M
-walk-rowset-spec =
+pub walk_rowset_spec : {M : Type 1} → statement M
+walk_rowset_spec =
     tie.close
-    (tie.spec need-at-requires enum-known-refusal enum_told walk-body-requires returns returns-2)
+    (tie.spec need_at-requires enum_known-refusal enum_told walk_body-requires returns returns-2)

@@ -5,43 +5,43 @@ use borrow.Author.Rules.{rules}
 use Rattle.wire_value.proofs.value.check_bytes.Statement.{statement}
 use Rattle.wire_value.proofs.value.check_bytes.Tie as tie
 
-add-need-at : tie.Need-overflow-add-need-at
-add-need-at c = search rules
+add-need_at : tie.Need-overflow_add-at
+add-need_at c = search rules
 
-need-at-requires : tie.Need-need-at-requires
-need-at-requires c κs = search rules
+need_at-requires : tie.Need-need_at-requires
+need_at-requires c κs = search rules
 
-enum-known-refusal : tie.Need-enum-known-refusal
-enum-known-refusal c = search rules
+enum_known-refusal : tie.Need-enum_known-refusal
+enum_known-refusal c = search rules
 
-enum_told : tie.Need-enum-told
+enum_told : tie.Need-enum_told-1
 enum_told c = search rules
 
-add-t9 : tie.Need-overflow-add-t9
+add-t9 : tie.Need-overflow_add-result
 add-t9 c = search rules
 
-add-t10 : tie.Need-overflow-add-t10
+add-t10 : tie.Need-overflow_add-result-in-Enough
 add-t10 c =
-    let start = c.before.before.before.before in
-    omega (arith, payload_there start.args.input.now start.args.at start.args.header start.requires.1 start.requires.0 start.args.size start.requires.2 _ c.before.before.need-at.ensures c.enum_told.given.1)
+    let start = c in
+    omega (arith, payload_there start.args.input.now start.args.at start.args.header start.requires.1 start.requires.0 start.args.size start.requires.2 _ c.need_at.ensures c.in-Enough.is)
 
-returns : tie.Need-returns
+returns : tie.Need-returns-in-Short
 returns c =
-    let start = c.before.before.before.before.before in
-    payload_lacks start.args.input.now start.args.at start.args.header start.requires.1 start.requires.0 start.args.size start.requires.2 _ c.before.before.before.need-at.ensures _ c.before.refusal.given.1
+    let start = c in
+    payload_lacks start.args.input.now start.args.at start.args.header start.requires.1 start.requires.0 start.args.size start.requires.2 _ c.need_at.ensures _ c.in-Short.is
 
-returns-2 : tie.Need-returns-2
+returns-2 : tie.Need-returns-in-Enough
 returns-2 c =
-    let start = c.before.before.before.before in
-    payload_passes start.args.input.now start.args.at start.args.header start.requires.1 start.requires.0 start.args.size start.requires.2 _ c.before.before.need-at.ensures c.enum_told.given.1
+    let start = c in
+    payload_passes start.args.input.now start.args.at start.args.header start.requires.1 start.requires.0 start.args.size start.requires.2 _ c.need_at.ensures c.in-Enough.is
 
-pub check-bytes-spec : {M : Type 1} → statement M
-check-bytes-spec =
+pub check_bytes_spec : {M : Type 1} → statement M
+check_bytes_spec =
     tie.close
     (tie.spec
-    add-need-at
-    need-at-requires
-    enum-known-refusal
+    add-need_at
+    need_at-requires
+    enum_known-refusal
     enum_told
     add-t9
     add-t10

@@ -4,35 +4,35 @@ use borrow.Author.Rules.{rules}
 use Rattle.wire_value.proofs.value.check_payload.Statement.{statement}
 use Rattle.wire_value.proofs.value.check_payload.Tie as tie
 
-payload-size-requires : tie.Need-payload-size-requires
-payload-size-requires c κs = search rules
+payload_size-requires : tie.Need-payload_size-requires
+payload_size-requires c κs = search rules
 
-enum-known-refusal : tie.Need-enum-known-refusal
-enum-known-refusal c = search rules
+enum_known-refusal : tie.Need-enum_known-refusal
+enum_known-refusal c = search rules
 
-enum-known-size : tie.Need-enum-known-size
-enum-known-size c = search rules
+enum_known-size : tie.Need-enum_known-size
+enum_known-size c = search rules
 
-check-bytes-requires : tie.Need-check-bytes-requires
-check-bytes-requires c κs =
-    let start = c.before.before.before.before.before in
-    (start.requires.0, start.requires.1, header_looks start.args.input.now start.args.at start.args.header start.requires.1 start.requires.0 _ c.before.before.before.payload-size.ensures _ c.before.size.given.1)
+check_bytes-requires : tie.Need-check_bytes-requires
+check_bytes-requires c κs =
+    let start = c in
+    (start.requires.0, start.requires.1, header_looks start.args.input.now start.args.at start.args.header start.requires.1 start.requires.0 _ c.payload_size.ensures _ c.in-Payload.is)
 
-returns : tie.Need-returns
+returns : tie.Need-returns-in-Refused
 returns c =
-    let start = c.before.before.before.before.before in
-    header_fails start.args.input.now start.args.at start.args.header start.requires.1 start.requires.0 _ c.before.before.before.payload-size.ensures _ c.before.refusal.given.1
+    let start = c in
+    header_fails start.args.input.now start.args.at start.args.header start.requires.1 start.requires.0 _ c.payload_size.ensures _ c.in-Refused.is
 
-returns-2 : tie.Need-returns-2
+returns-2 : tie.Need-returns-in-Payload
 returns-2 c = search rules
 
-pub check-payload-spec : {M : Type 1} → statement M
-check-payload-spec =
+pub check_payload_spec : {M : Type 1} → statement M
+check_payload_spec =
     tie.close
     (tie.spec
-    payload-size-requires
-    enum-known-refusal
-    enum-known-size
-    check-bytes-requires
+    payload_size-requires
+    enum_known-refusal
+    enum_known-size
+    check_bytes-requires
     returns
     returns-2)

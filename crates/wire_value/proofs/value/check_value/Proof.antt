@@ -6,39 +6,39 @@ use borrow.Author.Rules.{rules}
 use Rattle.wire_value.proofs.value.check_value.Statement.{statement}
 use Rattle.wire_value.proofs.value.check_value.Tie as tie
 
-need-at-requires : tie.Need-need-at-requires
-need-at-requires c κs = search rules
+need_at-requires : tie.Need-need_at-requires
+need_at-requires c κs = search rules
 
-enum-known-refusal : tie.Need-enum-known-refusal
-enum-known-refusal c = search rules
+enum_known-refusal : tie.Need-enum_known-refusal
+enum_known-refusal c = search rules
 
-enum_told : tie.Need-enum-told
+enum_told : tie.Need-enum_told-1
 enum_told c = search rules
 
-read-header-requires : tie.Need-read-header-requires
-read-header-requires c κs = search rules
+read_header-requires : tie.Need-read_header-requires
+read_header-requires c κs = search rules
 
-check-payload-requires : tie.Need-check-payload-requires
-check-payload-requires c κs =
-    let start = c.before.before.before.before.before in
-    (omega (arith, enough_room start.args.input.now start.args.at 8 _ c.before.before.before.need-at.ensures c.before.enum_told.given.1), c.read-header.ensures)
+check_payload-requires : tie.Need-check_payload-requires
+check_payload-requires c κs =
+    let start = c in
+    (omega (arith, enough_room start.args.input.now start.args.at 8 _ c.need_at.ensures c.in-Enough.is), c.read_header.ensures)
 
-returns : tie.Need-returns
+returns : tie.Need-returns-in-Short
 returns c =
-    let start = c.before.before.before.before.before in
-    header_short start.args.input.now start.args.at _ c.before.before.before.need-at.ensures _ c.before.refusal.given.1
+    let start = c in
+    header_short start.args.input.now start.args.at _ c.need_at.ensures _ c.in-Short.is
 
-returns-2 : tie.Need-returns-2
+returns-2 : tie.Need-returns-in-Enough
 returns-2 c = search rules
 
-pub check-value-spec : {M : Type 1} → statement M
-check-value-spec =
+pub check_value_spec : {M : Type 1} → statement M
+check_value_spec =
     tie.close
     (tie.spec
-    need-at-requires
-    enum-known-refusal
+    need_at-requires
+    enum_known-refusal
     enum_told
-    read-header-requires
-    check-payload-requires
+    read_header-requires
+    check_payload-requires
     returns
     returns-2)

@@ -6,15 +6,15 @@ use borrow.Author.Rules.{rules}
 use Rattle.wire_value.proofs.value.double.Statement.{statement}
 use Rattle.wire_value.proofs.value.double.Tie as tie
 
-returns : tie.Need-returns
+returns : tie.Need-returns-then-bits-gt9218868437227405312
 unfolding div of_bits
-returns c = double_nan c.before.args.bits c.if1.true
+returns c = double_nan c.args.bits c.if-bits-gt9218868437227405312.true
 
-float-from-bits-result : tie.Need-float-from-bits-result
-float-from-bits-result c = no_nan_not c.before.args.bits c.if1.false
+float_from_bits-result : tie.Need-float_from_bits-result
+float_from_bits-result c = no_nan_not c.args.bits c.if-bits-gt9218868437227405312.false
 
-returns-2 : tie.Need-returns-2
+returns-2 : tie.Need-returns
 returns-2 c = search rules
 
-pub double-spec : {M : Type 1} → statement M
-double-spec = tie.close (tie.spec returns float-from-bits-result returns-2)
+pub double_spec : {M : Type 1} → statement M
+double_spec = tie.close (tie.spec returns float_from_bits-result returns-2)

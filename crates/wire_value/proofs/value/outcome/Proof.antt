@@ -11,51 +11,51 @@ use borrow.Author.Rules.{rules}
 use Rattle.wire_value.proofs.value.outcome.Statement.{statement}
 use Rattle.wire_value.proofs.value.outcome.Tie as tie
 
-enum-known-answer : tie.Need-enum-known-answer
-enum-known-answer c = search rules
+enum_known-answer : tie.Need-enum_known-answer
+enum_known-answer c = search rules
 
 outcome-requires : tie.Need-outcome-requires
 outcome-requires c κs = search rules
 
-enum-known-answer-2 : tie.Need-enum-known-answer-2
-enum-known-answer-2 c = search rules
+enum_known-answer-2 : tie.Need-enum_known-answer-in-Got-1
+enum_known-answer-2 c = search rules
 
-cast-t7 : tie.Need-overflow-cast-t7
+cast-t7 : tie.Need-overflow_cast-result
 cast-t7 c = search rules
 
-value-type-requires : tie.Need-value-type-requires
-value-type-requires c κs = search rules
+value_type-requires : tie.Need-value_type-requires
+value_type-requires c κs = search rules
 
 bit-requires : tie.Need-bit-requires
 bit-requires c κs = search rules
 
-value-word-requires : tie.Need-value-word-requires
-value-word-requires c κs = search rules
+value_word-requires : tie.Need-value_word-requires
+value_word-requires c κs = search rules
 
-value-length-requires : tie.Need-value-length-requires
-value-length-requires c κs = search rules
+value_length-requires : tie.Need-value_length-requires
+value_length-requires c κs = search rules
 
-returns : tie.Need-returns
-returns c = case paper_value c.before.before.answer.given.1 c.outcome.ensures
+returns : tie.Need-returns-in-Refused
+returns c = case paper_value c.in-Refused.is c.outcome.ensures
 
-returns-2 : tie.Need-returns-2
+returns-2 : tie.Need-returns-in-Got
 returns-2 c =
-    let known = c.before.before.before.before.before.before.answer2.given in
-    case paper_value known.1
-    ((λ i. record { kind = 0; number = 0; count = known.0.0.next; v0 = known.0.0.id; v1 = c.before.before.before.value-type.ensures i; v2 = c.before.before.bit.ensures i; v3 = c.before.value-word.ensures i; v4 = c.value_length.ensures i; v5 = 0; v6 = 0 })
-    ∙ ap (λ (words : List ℕ). told (accepted known.0.0.next words)) (sym (entry_words_lem known.0.0.id (bit known.0.0.aggregate) known.0.0.bits known.0.0.value)))
+    let known = c.in-Got in
+    case paper_value known.is
+    ((λ i. record { kind = 0; number = 0; count = known.read.next; v0 = known.read.id; v1 = c.value_type.ensures i; v2 = c.bit.ensures i; v3 = c.value_word.ensures i; v4 = c.value_length.ensures i; v5 = 0; v6 = 0 })
+    ∙ ap (λ (words : List ℕ). told (accepted known.read.next words)) (sym (entry_words_lem known.read.id (bit known.read.aggregate) known.read.bits known.read.value)))
 
-pub outcome-spec : {M : Type 1} → statement M
-outcome-spec =
+pub outcome_spec : {M : Type 1} → statement M
+outcome_spec =
     tie.close
     (tie.spec
-    enum-known-answer
+    enum_known-answer
     outcome-requires
-    enum-known-answer-2
+    enum_known-answer-2
     cast-t7
-    value-type-requires
+    value_type-requires
     bit-requires
-    value-word-requires
-    value-length-requires
+    value_word-requires
+    value_length-requires
     returns
     returns-2)

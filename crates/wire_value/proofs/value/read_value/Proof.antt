@@ -6,57 +6,57 @@ use borrow.Author.Rules.{rules}
 use Rattle.wire_value.proofs.value.read_value.Statement.{statement}
 use Rattle.wire_value.proofs.value.read_value.Tie as tie
 
-check-value-requires : tie.Need-check-value-requires
-check-value-requires c κs = search rules
+check_value-requires : tie.Need-check_value-requires
+check_value-requires c κs = search rules
 
-enum-known-refusal : tie.Need-enum-known-refusal
-enum-known-refusal c = search rules
+enum_known-refusal : tie.Need-enum_known-refusal
+enum_known-refusal c = search rules
 
-enum-known-header : tie.Need-enum-known-header
-enum-known-header c = search rules
+enum_known-header : tie.Need-enum_known-header
+enum_known-header c = search rules
 
-bits-at-requires : tie.Need-bits-at-requires
-bits-at-requires c κs =
-    let start = c.before.before.before.before.before in
-    let check-value = c.before.before.before.check-value in
-    (passed_room start.args.input.now start.args.at _ _ _ check-value.ensures.0 check-value.ensures.1 c.before.header.given.1, passed_kind start.args.input.now start.args.at _ _ _ check-value.ensures.0 c.before.header.given.1)
+bits_at-requires : tie.Need-bits_at-bits-requires
+bits_at-requires c κs =
+    let start = c in
+    let check-value = c.check_value in
+    (passed_room start.args.input.now start.args.at _ _ _ check-value.ensures.0 check-value.ensures.1 c.in-Passed.is, passed_kind start.args.input.now start.args.at _ _ _ check-value.ensures.0 c.in-Passed.is)
 
-cast-value-of : tie.Need-overflow-cast-value-of
-cast-value-of c = search rules
+cast-value_of : tie.Need-overflow_cast-kind
+cast-value_of c = search rules
 
-add-value-of : tie.Need-overflow-add-value-of
-add-value-of c =
-    let start = c.before.before.before.before.before.before.before in
-    let check-value = c.before.before.before.before.before.check-value in
-    omega (arith, passed_room start.args.input.now start.args.at _ _ _ check-value.ensures.0 check-value.ensures.1 c.before.before.before.header.given.1)
+add-value_of : tie.Need-overflow_add-at
+add-value_of c =
+    let start = c in
+    let check-value = c.check_value in
+    omega (arith, passed_room start.args.input.now start.args.at _ _ _ check-value.ensures.0 check-value.ensures.1 c.in-Passed.is)
 
-cast-value-of-2 : tie.Need-overflow-cast-value-of-2
-cast-value-of-2 c = search rules
+cast-value_of-2 : tie.Need-overflow_cast-header
+cast-value_of-2 c = search rules
 
-value-of-requires : tie.Need-value-of-requires
-value-of-requires c κs = search rules
+value_of-requires : tie.Need-value_of-requires
+value_of-requires c κs = search rules
 
-returns : tie.Need-returns
+returns : tie.Need-returns-in-Failed
 returns c =
-    let start = c.before.before.before.before.before in
-    value_refused start.args.input.now start.args.at _ _ c.before.before.before.check-value.ensures.0 c.before.refusal.given.1
+    let start = c in
+    value_refused start.args.input.now start.args.at _ _ c.check_value.ensures.0 c.in-Failed.is
 
-returns-2 : tie.Need-returns-2
+returns-2 : tie.Need-returns-in-Passed
 returns-2 c =
-    let start = c.before.before.before.before.before.before.before.before.before in
-    value_got start.args.input.now start.args.at _ _ _ _ _ c.before.before.before.before.before.before.before.check-value.ensures.0 c.before.before.before.before.before.header.given.1 c.before.before.before.bits_at.ensures c.value_of_lem.ensures
+    let start = c in
+    value_got start.args.input.now start.args.at _ _ _ _ _ c.check_value.ensures.0 c.in-Passed.is c.bits_at-bits.ensures c.value_of.ensures
 
-pub read-value-spec : {M : Type 1} → statement M
-read-value-spec =
+pub read_value_spec : {M : Type 1} → statement M
+read_value_spec =
     tie.close
     (tie.spec
-    check-value-requires
-    enum-known-refusal
-    enum-known-header
-    bits-at-requires
-    cast-value-of
-    add-value-of
-    cast-value-of-2
-    value-of-requires
+    check_value-requires
+    enum_known-refusal
+    enum_known-header
+    bits_at-requires
+    cast-value_of
+    add-value_of
+    cast-value_of-2
+    value_of-requires
     returns
     returns-2)
