@@ -1,8 +1,10 @@
-// A descriptor read whole into a lent buffer, for the programs; a read that fails is told, and not taken for the
-// input's end.
+// A reader read whole into a lent buffer, for the programs; a read that fails is told, and not taken for the input's
+// end.
 #![tactic(auto)]
 
-ghost use Rattle.input.specs.Statement.{Inside};
+ghost use Rattle.input.specs.Statement.{Inside, ReadsWhole};
+
+use std::io::Read;
 
 // What `read_whole` answers: how many bytes it put at the buffer's front, or that a read failed.
 #[derive(Clone, Copy)]
@@ -11,32 +13,73 @@ pub enum Input {
     Failed,
 }
 
-// One read into the buffer from `done` on; a negative number where it failed.
-fn read_more(fd: i32, buffer: &mut [u8], done: usize) -> isize {
-    if buffer.len() < done {
-        return -1;
-    }
-    libc::read(fd, &mut buffer[done..])
-}
-
 // Reads until the input ends or the buffer is full.
-pub fn read_whole(fd: i32, buffer: &mut [u8]) -> Input
-    ensures { Inside buffer.new result }
+pub fn read_whole<R: Read>(reader: &mut R, buffer: &mut [u8]) -> Input
+    ensures inside { Inside buffer.new result }
+    ensures whole { ReadsWhole (R.remaining reader.old) buffer.new result }
 {
     let mut done = 0;
     while done < buffer.len() {
-        let got = read_more(fd, buffer, done);
-        if got < 0 {
-            return Input::Failed;
+        match reader.read(&mut buffer[done..]) {
+            Ok(0) => return Input::Bytes(done),
+            Ok(more) => done += more,
+            Err(_) => return Input::Failed,
         }
-        let more = io::count(got, buffer);
-        if more == 0 {
-            return Input::Bytes(done);
-        }
-        if buffer.len() - done < more {
-            return Input::Failed;
-        }
-        done += more;
     }
     Input::Bytes(done)
+}
+
+#[cfg(test)]
+mod tests {
+    use super::*;
+    use std::io;
+
+    // Gives one byte, and then fails.
+    #[derive(Drop)]
+    struct Breaking {
+        given: bool,
+    }
+
+    impl Read for Breaking {
+        fn read(&mut self, buf: &mut [u8]) -> io::Result<usize> {
+            if self.given || buf.is_empty() {
+                return Err(io::Error::from(io::ErrorKind::Other));
+            }
+            self.given = true;
+            buf[0] = b'x';
+            Ok(1)
+        }
+    }
+
+    // The bytes told, or `None` where a read failed.
+    fn told<'a>(answer: Input, buffer: &'a [u8]) -> Option<&'a [u8]> {
+        match answer {
+            Input::Bytes(count) => buffer.get(..count),
+            Input::Failed => None,
+        }
+    }
+
+    #[test]
+    fn reads_to_the_end(rt: HostRuntime) {
+        let mut reader = b"abc".as_slice();
+        let mut buffer = [0u8; 5];
+        let answer = read_whole(&mut reader, &mut buffer);
+        assert!(rt; told(answer, &buffer) == Some(b"abc".as_slice()));
+    }
+
+    #[test]
+    fn stops_where_the_buffer_is_full(rt: HostRuntime) {
+        let mut reader = b"abc".as_slice();
+        let mut buffer = [0u8; 2];
+        let answer = read_whole(&mut reader, &mut buffer);
+        assert!(rt; told(answer, &buffer) == Some(b"ab".as_slice()));
+        assert!(rt; reader == b"c".as_slice());
+    }
+
+    #[test]
+    fn a_read_that_fails_is_told(rt: HostRuntime) {
+        let mut buffer = [0u8; 5];
+        let answer = read_whole(&mut Breaking { given: false }, &mut buffer);
+        assert!(rt; told(answer, &buffer).is_none());
+    }
 }

@@ -3,10 +3,8 @@
 // output.
 #![tactic(auto)]
 
-use libc::{STDERR_FILENO, STDIN_FILENO};
-
-fn main() {
-    if !list_print::print_from(STDIN_FILENO) {
-        io::write_all(STDERR_FILENO, b"list: standard input cannot be read\n");
+fn main(rt: HostRuntime) {
+    if !list_print::print_from(&mut rt.stdin(), &mut rt.stdout()) {
+        let _ = rt.eprintln("list: standard input cannot be read");
     }
 }

@@ -1,32 +1,33 @@
-// What a descriptor holds, listed to standard output: the reading and writing of the programs that list.
+// What a reader holds, listed to a writer: the reading and writing of the programs that list. A write that fails is
+// passed over: whoever read the listing is gone.
 #![tactic(auto)]
 
 use input::Input;
-use libc::STDOUT_FILENO;
 use listing::Listed;
+use std::io::{Read, Write};
 
-fn print_into(input: &[u8], text: &mut [u8]) {
+fn print_into<W: Write>(input: &[u8], text: &mut [u8], writer: &mut W) {
     match listing::list(input, text) {
         Listed::Written(count) => {
-            io::write_all(STDOUT_FILENO, &text[..count]);
+            let _ = writer.write_all(&text[..count]);
         }
         Listed::Refused(_) => {}
     }
 }
 
-fn print(input: &[u8]) {
+fn print<W: Write>(input: &[u8], writer: &mut W) {
     let mut space = [0u8; listing::TEXT_ROOM];
     let text: &mut [u8] = &mut space;
-    print_into(input, text);
+    print_into(input, text, writer);
 }
 
-// Writes the whole listing of what a descriptor holds, and answers true; or false where it cannot be read.
-pub fn print_from(fd: i32) -> bool {
+// Writes the whole listing of what a reader holds, and answers true; or false where it cannot be read.
+pub fn print_from<R: Read, W: Write>(reader: &mut R, writer: &mut W) -> bool {
     // One byte more than is listed, so that a longer input shows.
     let mut buffer = [0u8; 65_537];
-    match input::read_whole(fd, &mut buffer) {
+    match input::read_whole(reader, &mut buffer) {
         Input::Bytes(count) => {
-            print(&buffer[..count]);
+            print(&buffer[..count], writer);
             true
         }
         Input::Failed => false,

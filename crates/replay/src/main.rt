@@ -3,7 +3,9 @@
 // exported functions; the words of a case in `read` and those of an answer in `say`.
 #![tactic(auto)]
 
-use libc::STDIN_FILENO;
+ghost use Rattle.std.specs.Prelude.{◌≤◌, length};
+
+use std::io::{Read, Write};
 
 mod packets;
 mod read;
@@ -11,11 +13,27 @@ mod rowsets;
 mod run;
 mod say;
 
-fn lines(input: &[u8]) {
+// Reads until the buffer is full, the input ends or a read fails: what was read by then is answered. How many bytes
+// it put at the buffer's front.
+fn read_full<R: Read>(reader: &mut R, buffer: &mut [u8]) -> usize
+    ensures { result ≤ length buffer.new }
+{
+    let mut done = 0;
+    while done < buffer.len() {
+        match reader.read(&mut buffer[done..]) {
+            Ok(0) => return done,
+            Ok(more) => done += more,
+            Err(_) => return done,
+        }
+    }
+    done
+}
+
+fn lines<W: Write>(to: &mut W, input: &[u8]) {
     let mut start = 0;
     while start < input.len() {
         let end = read::find(input, start, b'\n');
-        run::case(read::cut(input, start, end));
+        run::case(to, read::cut(input, start, end));
         if end < start {
             return;
         }
@@ -26,8 +44,8 @@ fn lines(input: &[u8]) {
     }
 }
 
-fn main() {
+fn main(rt: HostRuntime) {
     let mut input = [0u8; 262_144];
-    let count = io::read_full(STDIN_FILENO, &mut input);
-    lines(&input[..count]);
+    let count = read_full(&mut rt.stdin(), &mut input);
+    lines(&mut rt.stdout(), &input[..count]);
 }

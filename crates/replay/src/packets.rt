@@ -1,5 +1,7 @@
 // The cases of packets, in archive mode and, by the names that end in `-live`, in live mode.
-use crate::read::{bytes_into, cut, front, is, least, number, output, table, word, words_into};
+use crate::read::{
+    buffer, bytes_into, cut, front, is, least, number, output, table, word, words_into,
+};
 use crate::run::{id_of, say_id, truth};
 use crate::say;
 use face_packet_write::cablefinch_encode;
@@ -8,6 +10,7 @@ use face_parts::{
     cablefinch_contains, cablefinch_encoded_size, cablefinch_part, cablefinch_validate,
 };
 use packet::ENTRY_WORDS;
+use std::io::Write;
 use words::outcome::Outcome;
 
 // The modes by the numbers of the exported functions.
@@ -22,23 +25,24 @@ fn entries_words(entries: u64) -> usize {
     0xffff_ffff
 }
 
-fn say_packet(parts: &[u64], outcome: Outcome) {
-    if !say::consumed(outcome) {
-        say::kept_words(parts, 0);
+fn say_packet<W: Write>(to: &mut W, parts: &[u64], outcome: Outcome) {
+    if !say::consumed(to, outcome) {
+        say::kept_words(to, parts, 0);
         return;
     }
-    say::number(outcome.count);
-    say::number(outcome.v0);
-    say::number(outcome.v1);
-    say_id(outcome.v2, outcome.v3, outcome.v4, outcome.v5);
-    say::number(outcome.v6);
-    say::parts(parts, outcome.v6 as usize);
-    say::kept_words(parts, entries_words(outcome.v6));
+    say::number(to, outcome.count);
+    say::number(to, outcome.v0);
+    say::number(to, outcome.v1);
+    say_id(to, outcome.v2, outcome.v3, outcome.v4, outcome.v5);
+    say::number(to, outcome.v6);
+    say::parts(to, parts, outcome.v6 as usize);
+    say::kept_words(to, parts, entries_words(outcome.v6));
 }
 
 // Part tables of so many words, or all of the table where it is shorter: no case of the list fills that.
 
-fn decode_with_into(
+fn decode_with_into<W: Write>(
+    to: &mut W,
     mode: u64,
     input: &[u8],
     limit: u64,
@@ -48,23 +52,31 @@ fn decode_with_into(
 ) {
     let lent = least(words, parts.len());
     let outcome = cablefinch_decode_with(mode, input, limit, ceiling, &mut parts[..lent]);
-    say_packet(&parts[..lent], outcome);
+    say_packet(to, &parts[..lent], outcome);
 }
 
-fn decode_into(mode: u64, input: &[u8], limit: u64, parts: &mut [u64], words: usize) {
+fn decode_into<W: Write>(
+    to: &mut W,
+    mode: u64,
+    input: &[u8],
+    limit: u64,
+    parts: &mut [u64],
+    words: usize,
+) {
     let lent = least(words, parts.len());
     let outcome = cablefinch_decode(mode, input, limit, &mut parts[..lent]);
-    say_packet(&parts[..lent], outcome);
+    say_packet(to, &parts[..lent], outcome);
 }
 
-fn packet(mode: u64, line: &[u8]) {
-    let mut space = io::buffer();
+fn packet<W: Write>(to: &mut W, mode: u64, line: &[u8]) {
+    let mut space = buffer();
     let mut parts = table();
     let count = bytes_into(&mut space, word(line, 4));
     let limit = number(word(line, 1));
     let ceiling = (number(word(line, 2)) % 0x1_0000_0000) as u32;
     let words = entries_words(number(word(line, 3)));
     decode_with_into(
+        to,
         mode,
         cut(&space, 0, count),
         limit,
@@ -74,92 +86,103 @@ fn packet(mode: u64, line: &[u8]) {
     );
 }
 
-fn packet_default(mode: u64, line: &[u8]) {
-    let mut space = io::buffer();
+fn packet_default<W: Write>(to: &mut W, mode: u64, line: &[u8]) {
+    let mut space = buffer();
     let mut parts = table();
     let count = bytes_into(&mut space, word(line, 3));
     let limit = number(word(line, 1));
     let words = entries_words(number(word(line, 2)));
-    decode_into(mode, cut(&space, 0, count), limit, &mut parts, words);
+    decode_into(to, mode, cut(&space, 0, count), limit, &mut parts, words);
 }
 
-fn say_part(input: &[u8], parts: &[u64], index: usize) {
+fn say_part<W: Write>(to: &mut W, input: &[u8], parts: &[u64], index: usize) {
     let outcome = cablefinch_part(input, parts, index);
     let at = outcome.v0 as usize;
-    let end = std::num::wrapping_add_u64(outcome.v0, outcome.v1) as usize;
-    say::text(b"ok");
-    say::bytes(cut(input, at, end));
-    say::checksum(cablefinch_part_checksum(input, parts, index));
+    let end = outcome.v0.wrapping_add(outcome.v1) as usize;
+    say::text(to, b"ok");
+    say::bytes(to, cut(input, at, end));
+    say::checksum(to, cablefinch_part_checksum(input, parts, index));
 }
 
-fn part(line: &[u8]) {
-    let mut space = io::buffer();
+fn part<W: Write>(to: &mut W, line: &[u8]) {
+    let mut space = buffer();
     let mut parts = table();
     let count = bytes_into(&mut space, word(line, 2));
     let words = words_into(&mut parts, word(line, 3));
     let index = number(word(line, 1)) as usize;
-    say_part(cut(&space, 0, count), front(&parts, words), index);
+    say_part(to, cut(&space, 0, count), front(&parts, words), index);
 }
 
 fn flags(code: u64) -> u16 {
     (code % 0x1_0000) as u16
 }
 
-fn contains(line: &[u8]) {
+fn contains<W: Write>(to: &mut W, line: &[u8]) {
     let all = flags(number(word(line, 1)));
     let some = flags(number(word(line, 2)));
-    say::text(b"ok");
-    truth(cablefinch_contains(all, some));
+    say::text(to, b"ok");
+    truth(to, cablefinch_contains(all, some));
 }
 
-fn validate(mode: u64, line: &[u8]) {
-    let mut space = io::buffer();
+fn validate<W: Write>(to: &mut W, mode: u64, line: &[u8]) {
+    let mut space = buffer();
     let mut parts = table();
     let count = bytes_into(&mut space, word(line, 4));
     let words = words_into(&mut parts, word(line, 5));
     let kind = number(word(line, 1));
-    say::accepted(cablefinch_validate(mode, kind, cut(&space, 0, count), front(&parts, words)));
+    say::accepted(
+        to,
+        cablefinch_validate(mode, kind, cut(&space, 0, count), front(&parts, words)),
+    );
 }
 
-fn packet_size(mode: u64, line: &[u8]) {
-    let mut space = io::buffer();
+fn packet_size<W: Write>(to: &mut W, mode: u64, line: &[u8]) {
+    let mut space = buffer();
     let mut parts = table();
     let count = bytes_into(&mut space, word(line, 4));
     let words = words_into(&mut parts, word(line, 5));
     let kind = number(word(line, 1));
     let outcome = cablefinch_encoded_size(mode, kind, cut(&space, 0, count), front(&parts, words));
-    if say::accepted(outcome) {
-        say::number(outcome.count);
+    if say::accepted(to, outcome) {
+        say::number(to, outcome.count);
     }
 }
 
 // The bytes that were written, or what was left alone.
-pub(crate) fn say_written(out: &[u8], outcome: Outcome) {
-    if say::accepted(outcome) {
-        say::number(outcome.count);
-        say::bytes(cut(out, 0, outcome.count as usize));
-        say::kept_bytes(out, outcome.count as usize);
+pub(crate) fn say_written<W: Write>(to: &mut W, out: &[u8], outcome: Outcome) {
+    if say::accepted(to, outcome) {
+        say::number(to, outcome.count);
+        say::bytes(to, cut(out, 0, outcome.count as usize));
+        say::kept_bytes(to, out, outcome.count as usize);
         return;
     }
-    say::kept_bytes(out, 0);
+    say::kept_bytes(to, out, 0);
 }
 
-fn encode_into(mode: u64, line: &[u8], area: &[u8], parts: &[u64], out: &mut [u8]) {
+fn encode_into<W: Write>(
+    to: &mut W,
+    mode: u64,
+    line: &[u8],
+    area: &[u8],
+    parts: &[u64],
+    out: &mut [u8],
+) {
     let wire = id_of(word(line, 3));
     let kind = number(word(line, 1));
     let flags = flags(number(word(line, 2)));
     let room = least(number(word(line, 4)) as usize, out.len());
     let outcome = cablefinch_encode(mode, kind, flags, &wire, area, parts, &mut out[..room]);
-    say_written(&out[..room], outcome);
+    say_written(to, &out[..room], outcome);
 }
 
-fn packet_write(mode: u64, line: &[u8]) {
-    let mut space = io::buffer();
+fn packet_write<W: Write>(to: &mut W, mode: u64, line: &[u8]) {
+    let mut space = buffer();
     let mut parts = table();
     let mut out = output();
     let count = bytes_into(&mut space, word(line, 5));
     let words = words_into(&mut parts, word(line, 6));
     encode_into(
+        to,
         mode,
         line,
         cut(&space, 0, count),
@@ -169,31 +192,31 @@ fn packet_write(mode: u64, line: &[u8]) {
 }
 
 // Whether the case is one of these.
-pub(crate) fn answered(line: &[u8], kind: &[u8]) -> bool {
+pub(crate) fn answered<W: Write>(to: &mut W, line: &[u8], kind: &[u8]) -> bool {
     if is(kind, b"packet") {
-        packet(ARCHIVE, line);
+        packet(to, ARCHIVE, line);
     } else if is(kind, b"packet-live") {
-        packet(LIVE, line);
+        packet(to, LIVE, line);
     } else if is(kind, b"packet-default") {
-        packet_default(ARCHIVE, line);
+        packet_default(to, ARCHIVE, line);
     } else if is(kind, b"packet-default-live") {
-        packet_default(LIVE, line);
+        packet_default(to, LIVE, line);
     } else if is(kind, b"packet-write") {
-        packet_write(ARCHIVE, line);
+        packet_write(to, ARCHIVE, line);
     } else if is(kind, b"packet-write-live") {
-        packet_write(LIVE, line);
+        packet_write(to, LIVE, line);
     } else if is(kind, b"packet-size") {
-        packet_size(ARCHIVE, line);
+        packet_size(to, ARCHIVE, line);
     } else if is(kind, b"packet-size-live") {
-        packet_size(LIVE, line);
+        packet_size(to, LIVE, line);
     } else if is(kind, b"validate") {
-        validate(ARCHIVE, line);
+        validate(to, ARCHIVE, line);
     } else if is(kind, b"validate-live") {
-        validate(LIVE, line);
+        validate(to, LIVE, line);
     } else if is(kind, b"part") {
-        part(line);
+        part(to, line);
     } else if is(kind, b"contains") {
-        contains(line);
+        contains(to, line);
     } else {
         return false;
     }

@@ -4,6 +4,12 @@ ghost use Rattle.std.specs.Prelude.{◌≡◌, ◌<◌, ◌≤◌, length};
 
 // What is lent, by functions that tell their arrays' lengths alone, so that no caller's proof looks into them.
 
+pub(crate) fn buffer() -> [u8; 4_096]
+    ensures { 4096 ≡ length result }
+{
+    [0; 4_096]
+}
+
 pub(crate) fn output() -> [u8; 8_192]
     ensures { 8192 ≡ length result }
 {
@@ -24,14 +30,12 @@ pub(crate) fn values_table() -> [u64; 2_560]
 
 // The first place from `from` on where `byte` stands, or the end.
 pub(crate) fn find(text: &[u8], from: usize, byte: u8) -> usize {
-    let mut i = from;
-    while i < text.len() {
+    for i in from..text.len() {
         if text[i] == byte {
             return i;
         }
-        i += 1;
     }
-    i
+    from.max(text.len())
 }
 
 // The stretch of `text` from `from` to `end`; nothing where there is none.
@@ -55,10 +59,8 @@ fn next_word(line: &[u8], from: usize) -> usize {
 
 fn start_of(line: &[u8], index: usize) -> usize {
     let mut start = 0;
-    let mut passed = 0;
-    while passed < index {
+    for _ in 0..index {
         start = next_word(line, start);
-        passed += 1;
     }
     start
 }
@@ -70,17 +72,7 @@ pub(crate) fn word<'a>(line: &'a [u8], index: usize) -> &'a [u8] {
 }
 
 pub(crate) fn is(text: &[u8], name: &[u8]) -> bool {
-    if text.len() != name.len() {
-        return false;
-    }
-    let mut i = 0;
-    while i < name.len() {
-        if text[i] != name[i] {
-            return false;
-        }
-        i += 1;
-    }
-    true
+    text == name
 }
 
 fn digit(byte: u8) -> u8
@@ -97,15 +89,13 @@ fn appended(number: u64, last: u8) -> u64 {
     if 1_844_674_407_370_955_161 < number {
         return number;
     }
-    std::num::wrapping_add_u64(number * 10, last as u64)
+    (number * 10).wrapping_add(last as u64)
 }
 
 pub(crate) fn number(text: &[u8]) -> u64 {
     let mut number = 0;
-    let mut i = 0;
-    while i < text.len() {
-        number = appended(number, digit(text[i]));
-        i += 1;
+    for byte in text {
+        number = appended(number, digit(*byte));
     }
     number
 }
@@ -119,10 +109,8 @@ fn hex_into(out: &mut [u8], text: &[u8]) -> usize {
     if out.len() < count {
         return 0;
     }
-    let mut i = 0;
-    while i < count {
+    for i in 0..count {
         out[i] = pair(text[2 * i], text[2 * i + 1]);
-        i += 1;
     }
     count
 }
@@ -152,20 +140,18 @@ pub(crate) fn words_into(out: &mut [u64], text: &[u8]) -> usize {
         return 0;
     }
     let mut at = 0;
-    let mut i = 0;
-    while i < out.len() {
+    for i in 0..out.len() {
         if text.len() <= at {
             return i;
         }
         let end = find(text, at, b',');
         out[i] = number(cut(text, at, end));
-        i += 1;
         if text.len() <= end {
-            return i;
+            return i + 1;
         }
         at = end + 1;
     }
-    i
+    out.len()
 }
 
 pub(crate) fn least(a: usize, b: usize) -> usize

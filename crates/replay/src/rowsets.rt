@@ -1,7 +1,8 @@
 // The cases of rowsets.
 use crate::packets::say_written;
 use crate::read::{
-    bytes_into, cut, front, is, least, number, output, table, values_table, word, words_into,
+    buffer, bytes_into, cut, front, is, least, number, output, table, values_table, word,
+    words_into,
 };
 use crate::run::truth;
 use crate::say;
@@ -9,6 +10,7 @@ use face_rowsets::{
     cablefinch_decode_rowset, cablefinch_encode_rowset, cablefinch_is_plain, cablefinch_read_value,
     cablefinch_rowset_size,
 };
+use std::io::Write;
 use wire::layout::ENTRY_WORDS;
 use words::outcome::Outcome;
 
@@ -19,24 +21,25 @@ fn entries_words(entries: u64) -> usize {
     0xffff_ffff
 }
 
-fn say_rowset(rows: &[u64], values: &[u64], outcome: Outcome) {
-    if !say::accepted(outcome) {
-        say::kept_words(rows, 0);
-        say::kept_words(values, 0);
+fn say_rowset<W: Write>(to: &mut W, rows: &[u64], values: &[u64], outcome: Outcome) {
+    if !say::accepted(to, outcome) {
+        say::kept_words(to, rows, 0);
+        say::kept_words(to, values, 0);
         return;
     }
     let row_words = outcome.v0 as usize;
     let value_words = entries_words(outcome.v1);
-    say::number(outcome.v0);
-    say::number(outcome.v1);
-    say::words(rows, row_words);
-    say::words(values, value_words);
-    say::kept_words(rows, row_words);
-    say::kept_words(values, value_words);
+    say::number(to, outcome.v0);
+    say::number(to, outcome.v1);
+    say::words(to, rows, row_words);
+    say::words(to, values, value_words);
+    say::kept_words(to, rows, row_words);
+    say::kept_words(to, values, value_words);
 }
 
 // Tables of so many words, or all of a table where it is shorter: no case of the list fills that.
-fn decode_into(
+fn decode_into<W: Write>(
+    to: &mut W,
     input: &[u8],
     rows: &mut [u64],
     row_words: usize,
@@ -50,17 +53,18 @@ fn decode_into(
         &mut rows[..row_count],
         &mut values[..value_count],
     );
-    say_rowset(&rows[..row_count], &values[..value_count], outcome);
+    say_rowset(to, &rows[..row_count], &values[..value_count], outcome);
 }
 
-fn rowset(line: &[u8]) {
-    let mut space = io::buffer();
+fn rowset<W: Write>(to: &mut W, line: &[u8]) {
+    let mut space = buffer();
     let mut rows = table();
     let mut values = values_table();
     let count = bytes_into(&mut space, word(line, 3));
     let row_words = number(word(line, 1)) as usize;
     let value_words = entries_words(number(word(line, 2)));
     decode_into(
+        to,
         cut(&space, 0, count),
         &mut rows,
         row_words,
@@ -69,8 +73,8 @@ fn rowset(line: &[u8]) {
     );
 }
 
-fn rowset_size(line: &[u8]) {
-    let mut space = io::buffer();
+fn rowset_size<W: Write>(to: &mut W, line: &[u8]) {
+    let mut space = buffer();
     let mut rows = table();
     let mut values = values_table();
     let count = bytes_into(&mut space, word(line, 1));
@@ -82,19 +86,26 @@ fn rowset_size(line: &[u8]) {
         front(&rows, row_words),
         front(&values, value_words),
     );
-    if say::accepted(outcome) {
-        say::number(outcome.count);
+    if say::accepted(to, outcome) {
+        say::number(to, outcome.count);
     }
 }
 
-fn encode_into(area: &[u8], rows: &[u64], values: &[u64], out: &mut [u8], room: usize) {
+fn encode_into<W: Write>(
+    to: &mut W,
+    area: &[u8],
+    rows: &[u64],
+    values: &[u64],
+    out: &mut [u8],
+    room: usize,
+) {
     let lent = least(room, out.len());
     let outcome = cablefinch_encode_rowset(area, rows, values, &mut out[..lent]);
-    say_written(&out[..lent], outcome);
+    say_written(to, &out[..lent], outcome);
 }
 
-fn rowset_write(line: &[u8]) {
-    let mut space = io::buffer();
+fn rowset_write<W: Write>(to: &mut W, line: &[u8]) {
+    let mut space = buffer();
     let mut rows = table();
     let mut values = values_table();
     let mut out = output();
@@ -104,6 +115,7 @@ fn rowset_write(line: &[u8]) {
     let value_words = words_into(&mut values, word(line, 4));
     let area = cut(&space, 0, count);
     encode_into(
+        to,
         area,
         front(&rows, row_words),
         front(&values, value_words),
@@ -112,40 +124,40 @@ fn rowset_write(line: &[u8]) {
     );
 }
 
-fn value(line: &[u8]) {
-    let mut space = io::buffer();
+fn value<W: Write>(to: &mut W, line: &[u8]) {
+    let mut space = buffer();
     let count = bytes_into(&mut space, word(line, 2));
     let at = number(word(line, 1)) as usize;
     let outcome = cablefinch_read_value(cut(&space, 0, count), at);
-    if say::accepted(outcome) {
-        say::number(outcome.v0);
-        say::number(outcome.v1);
-        say::number(outcome.v2);
-        say::number(outcome.v3);
-        say::number(outcome.v4);
-        say::number(outcome.count);
+    if say::accepted(to, outcome) {
+        say::number(to, outcome.v0);
+        say::number(to, outcome.v1);
+        say::number(to, outcome.v2);
+        say::number(to, outcome.v3);
+        say::number(to, outcome.v4);
+        say::number(to, outcome.count);
     }
 }
 
-fn plain(line: &[u8]) {
-    let mut space = io::buffer();
+fn plain<W: Write>(to: &mut W, line: &[u8]) {
+    let mut space = buffer();
     let count = bytes_into(&mut space, word(line, 1));
-    say::text(b"ok");
-    truth(cablefinch_is_plain(cut(&space, 0, count)));
+    say::text(to, b"ok");
+    truth(to, cablefinch_is_plain(cut(&space, 0, count)));
 }
 
 // Whether the case is one of these.
-pub(crate) fn answered(line: &[u8], kind: &[u8]) -> bool {
+pub(crate) fn answered<W: Write>(to: &mut W, line: &[u8], kind: &[u8]) -> bool {
     if is(kind, b"rowset") {
-        rowset(line);
+        rowset(to, line);
     } else if is(kind, b"rowset-write") {
-        rowset_write(line);
+        rowset_write(to, line);
     } else if is(kind, b"rowset-size") {
-        rowset_size(line);
+        rowset_size(to, line);
     } else if is(kind, b"value") {
-        value(line);
+        value(to, line);
     } else if is(kind, b"plain") {
-        plain(line);
+        plain(to, line);
     } else {
         return false;
     }

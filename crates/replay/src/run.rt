@@ -2,42 +2,41 @@
 // filled with bytes 0xa5 before the call.
 ghost use Rattle.std.specs.Prelude.{◌≡◌, length};
 
-use crate::read::{bytes_into, cut, is, word};
+use crate::read::{buffer, bytes_into, cut, is, word};
 use crate::{packets, rowsets, say};
 use face_checksums::{cablefinch_checksum, cablefinch_finish, cablefinch_update};
 use face_ids::{
     cablefinch_guid_from_parts, cablefinch_guid_halves, cablefinch_guid_is_null,
     cablefinch_guid_parse, cablefinch_guid_parts, cablefinch_guid_print,
 };
+use std::io::Write;
 use words::outcome::Outcome;
 
-fn checksum(line: &[u8]) {
-    let mut space = io::buffer();
+fn checksum<W: Write>(to: &mut W, line: &[u8]) {
+    let mut space = buffer();
     let count = bytes_into(&mut space, word(line, 1));
-    say::text(b"ok");
-    say::checksum(cablefinch_checksum(cut(&space, 0, count)));
+    say::text(to, b"ok");
+    say::checksum(to, cablefinch_checksum(cut(&space, 0, count)));
 }
 
 fn updated(register: u64, text: &[u8]) -> u64 {
-    let mut space = io::buffer();
+    let mut space = buffer();
     let count = bytes_into(&mut space, text);
     cablefinch_update(register, cut(&space, 0, count))
 }
 
 // At most eight stretches.
-fn crc(line: &[u8]) {
+fn crc<W: Write>(to: &mut W, line: &[u8]) {
     let mut register = 0;
-    let mut index = 1;
-    while index < 9 {
+    for index in 1..9 {
         register = updated(register, word(line, index));
-        index += 1;
     }
-    say::text(b"ok");
-    say::checksum(cablefinch_finish(register));
+    say::text(to, b"ok");
+    say::checksum(to, cablefinch_finish(register));
 }
 
 // The sixteen bytes of an id whose four words an outcome tells.
-pub(crate) fn say_id(w0: u64, w1: u64, w2: u64, w3: u64) {
+pub(crate) fn say_id<W: Write>(to: &mut W, w0: u64, w1: u64, w2: u64, w3: u64) {
     let mut wire = [0u8; 16];
     cablefinch_guid_from_parts(
         (w0 % 0x1_0000_0000) as u32,
@@ -46,7 +45,7 @@ pub(crate) fn say_id(w0: u64, w1: u64, w2: u64, w3: u64) {
         (w3 % 0x1_0000_0000) as u32,
         &mut wire,
     );
-    say::bytes(&wire);
+    say::bytes(to, &wire);
 }
 
 // ID: sixteen bytes.
@@ -58,69 +57,69 @@ pub(crate) fn id_of(text: &[u8]) -> [u8; 16]
     wire
 }
 
-fn say_printed(text: &[u8], outcome: Outcome) {
-    if say::accepted(outcome) {
-        say::text(b" ");
-        say::text(cut(text, 0, outcome.count as usize));
+fn say_printed<W: Write>(to: &mut W, text: &[u8], outcome: Outcome) {
+    if say::accepted(to, outcome) {
+        say::text(to, b" ");
+        say::text(to, cut(text, 0, outcome.count as usize));
     }
-    say::kept_bytes(text, outcome.count as usize);
+    say::kept_bytes(to, text, outcome.count as usize);
 }
 
-fn guid_print(line: &[u8]) {
+fn guid_print<W: Write>(to: &mut W, line: &[u8]) {
     let wire = id_of(word(line, 1));
     let mut text = [0xa5u8; 64];
     let outcome = cablefinch_guid_print(&wire, &mut text);
-    say_printed(&text, outcome);
+    say_printed(to, &text, outcome);
 }
 
-fn guid_read(line: &[u8]) {
-    let mut space = io::buffer();
+fn guid_read<W: Write>(to: &mut W, line: &[u8]) {
+    let mut space = buffer();
     let count = bytes_into(&mut space, word(line, 1));
     let outcome = cablefinch_guid_parse(cut(&space, 0, count));
-    if say::accepted(outcome) {
-        say_id(outcome.v0, outcome.v1, outcome.v2, outcome.v3);
+    if say::accepted(to, outcome) {
+        say_id(to, outcome.v0, outcome.v1, outcome.v2, outcome.v3);
     }
 }
 
-pub(crate) fn truth(yes: bool) {
-    say::number(if yes { 1 } else { 0 });
+pub(crate) fn truth<W: Write>(to: &mut W, yes: bool) {
+    say::number(to, if yes { 1 } else { 0 });
 }
 
-fn guid_parts(line: &[u8]) {
+fn guid_parts<W: Write>(to: &mut W, line: &[u8]) {
     let wire = id_of(word(line, 1));
     let parts = cablefinch_guid_parts(&wire);
     let halves = cablefinch_guid_halves(&wire);
-    say::text(b"ok");
-    say::number(parts.v0);
-    say::number(parts.v1);
-    say::number(parts.v2);
-    say::number(parts.v3);
-    say::number(halves.v0);
-    say::number(halves.v1);
-    truth(cablefinch_guid_is_null(&wire));
+    say::text(to, b"ok");
+    say::number(to, parts.v0);
+    say::number(to, parts.v1);
+    say::number(to, parts.v2);
+    say::number(to, parts.v3);
+    say::number(to, halves.v0);
+    say::number(to, halves.v1);
+    truth(to, cablefinch_guid_is_null(&wire));
 }
 
-fn others(line: &[u8], kind: &[u8]) {
+fn others<W: Write>(to: &mut W, line: &[u8], kind: &[u8]) {
     if is(kind, b"crc") {
-        crc(line);
+        crc(to, line);
     } else if is(kind, b"checksum") {
-        checksum(line);
+        checksum(to, line);
     } else if is(kind, b"guid-print") {
-        guid_print(line);
+        guid_print(to, line);
     } else if is(kind, b"guid-read") {
-        guid_read(line);
+        guid_read(to, line);
     } else if is(kind, b"guid-parts") {
-        guid_parts(line);
+        guid_parts(to, line);
     } else {
-        say::text(b"bad case");
+        say::text(to, b"bad case");
     }
 }
 
 // The case on a line, answered on a line.
-pub(crate) fn case(line: &[u8]) {
+pub(crate) fn case<W: Write>(to: &mut W, line: &[u8]) {
     let kind = word(line, 0);
-    if packets::answered(line, kind) {} else if rowsets::answered(line, kind) {} else {
-        others(line, kind);
+    if !packets::answered(to, line, kind) && !rowsets::answered(to, line, kind) {
+        others(to, line, kind);
     }
-    say::text(b"\n");
+    say::text(to, b"\n");
 }

@@ -1,114 +1,102 @@
-// The words of an answer, by compare/PROTOCOL.md, written to standard output.
-use libc::STDOUT_FILENO;
+// The words of an answer, by compare/PROTOCOL.md, written to a writer. A write that fails is passed over: a comparison
+// then misses the answer.
+use std::io::Write;
 use words::outcome::{ACCEPTED, MORE, Outcome};
 
-pub(crate) fn text(bytes: &[u8]) {
-    io::write_all(STDOUT_FILENO, bytes);
+pub(crate) fn text<W: Write>(to: &mut W, bytes: &[u8]) {
+    let _ = to.write_all(bytes);
+}
+
+fn decimal<W: Write>(to: &mut W, value: u64) {
+    let _ = write!(to, "{value}");
 }
 
 // A space, and the number.
-pub(crate) fn number(value: u64) {
-    text(b" ");
-    io::print_decimal(STDOUT_FILENO, value);
+pub(crate) fn number<W: Write>(to: &mut W, value: u64) {
+    let _ = write!(to, " {value}");
 }
 
-pub(crate) fn checksum(value: u64) {
-    text(b" ");
-    io::print_hex(STDOUT_FILENO, value, 16);
+pub(crate) fn checksum<W: Write>(to: &mut W, value: u64) {
+    let _ = write!(to, " {value:016x}");
 }
 
-fn byte(value: u8) {
-    io::print_hex(STDOUT_FILENO, value as u64, 2);
+fn byte<W: Write>(to: &mut W, value: u8) {
+    let _ = write!(to, "{value:02x}");
 }
 
 // BYTES.
-pub(crate) fn bytes(s: &[u8]) {
-    text(b" ");
+pub(crate) fn bytes<W: Write>(to: &mut W, s: &[u8]) {
+    text(to, b" ");
     if s.len() == 0 {
-        text(b"-");
+        text(to, b"-");
     }
-    let mut i = 0;
-    while i < s.len() {
-        byte(s[i]);
-        i += 1;
+    for value in s {
+        byte(to, *value);
     }
 }
 
-fn comma(first: bool) {
+fn comma<W: Write>(to: &mut W, first: bool) {
     if !first {
-        text(b",");
+        text(to, b",");
     }
 }
 
 // The first `count` words of a table.
-pub(crate) fn words(table: &[u64], count: usize) {
-    text(b" ");
+pub(crate) fn words<W: Write>(to: &mut W, table: &[u64], count: usize) {
+    text(to, b" ");
     if count == 0 {
-        text(b"-");
+        text(to, b"-");
     }
-    let mut i = 0;
-    while i < table.len() {
-        if i == count {
-            return;
-        }
-        comma(i == 0);
-        io::print_decimal(STDOUT_FILENO, table[i]);
-        i += 1;
+    for (i, value) in table.iter().take(count).enumerate() {
+        comma(to, i == 0);
+        decimal(to, *value);
     }
 }
 
-fn place(offset: u64, length: u64) {
+fn place<W: Write>(to: &mut W, offset: u64, length: u64) {
     if length == packet::NULL_LENGTH {
-        text(b" null");
+        text(to, b" null");
         return;
     }
-    number(offset);
-    text(b"+");
-    io::print_decimal(STDOUT_FILENO, length);
+    number(to, offset);
+    text(to, b"+");
+    decimal(to, length);
 }
 
-fn part(offset: u64, length: u64, sum: u64) {
-    place(offset, length);
-    text(b":");
-    io::print_decimal(STDOUT_FILENO, sum);
+fn part<W: Write>(to: &mut W, offset: u64, length: u64, sum: u64) {
+    place(to, offset, length);
+    text(to, b":");
+    decimal(to, sum);
 }
 
 // The first `count` entries of a part table.
-pub(crate) fn parts(table: &[u64], count: usize) {
-    let mut i = 0;
-    while i < table.len() / packet::ENTRY_WORDS {
-        if i == count {
-            return;
-        }
+pub(crate) fn parts<W: Write>(to: &mut W, table: &[u64], count: usize) {
+    for i in 0..count.min(table.len() / packet::ENTRY_WORDS) {
         part(
+            to,
             table[packet::ENTRY_WORDS * i],
             table[packet::ENTRY_WORDS * i + 1],
             table[packet::ENTRY_WORDS * i + 2],
         );
-        i += 1;
     }
 }
 
 // Whether the words from `from` on hold what they were filled with.
-pub(crate) fn kept_words(table: &[u64], from: usize) {
-    let mut i = from;
-    while i < table.len() {
+pub(crate) fn kept_words<W: Write>(to: &mut W, table: &[u64], from: usize) {
+    for i in from..table.len() {
         if table[i] != 0xa5a5_a5a5_a5a5_a5a5 {
-            text(b" touched");
+            text(to, b" touched");
             return;
         }
-        i += 1;
     }
 }
 
-pub(crate) fn kept_bytes(buffer: &[u8], from: usize) {
-    let mut i = from;
-    while i < buffer.len() {
+pub(crate) fn kept_bytes<W: Write>(to: &mut W, buffer: &[u8], from: usize) {
+    for i in from..buffer.len() {
         if buffer[i] != 0xa5 {
-            text(b" touched");
+            text(to, b" touched");
             return;
         }
-        i += 1;
     }
 }
 
@@ -121,48 +109,48 @@ fn carried(refusal: u64) -> u64 {
     }
 }
 
-fn values(outcome: Outcome) {
+fn values<W: Write>(to: &mut W, outcome: Outcome) {
     let count = carried(outcome.number);
     if 0 < count {
-        number(outcome.v0);
+        number(to, outcome.v0);
     }
     if 1 < count {
-        number(outcome.v1);
+        number(to, outcome.v1);
     }
     if 2 < count {
-        number(outcome.v2);
+        number(to, outcome.v2);
     }
 }
 
 // `more`, or a refusal without the bytes consumed; nothing for what is accepted. Whether it is accepted.
-pub(crate) fn accepted(outcome: Outcome) -> bool {
+pub(crate) fn accepted<W: Write>(to: &mut W, outcome: Outcome) -> bool {
     if outcome.kind == ACCEPTED {
-        text(b"ok");
+        text(to, b"ok");
         return true;
     }
     if outcome.kind == MORE {
-        text(b"more");
+        text(to, b"more");
         return false;
     }
-    text(b"refused");
-    number(outcome.number);
-    values(outcome);
+    text(to, b"refused");
+    number(to, outcome.number);
+    values(to, outcome);
     false
 }
 
 // The same with the bytes consumed.
-pub(crate) fn consumed(outcome: Outcome) -> bool {
+pub(crate) fn consumed<W: Write>(to: &mut W, outcome: Outcome) -> bool {
     if outcome.kind == ACCEPTED {
-        text(b"ok");
+        text(to, b"ok");
         return true;
     }
     if outcome.kind == MORE {
-        text(b"more");
+        text(to, b"more");
         return false;
     }
-    text(b"refused");
-    number(outcome.number);
-    number(outcome.count);
-    values(outcome);
+    text(to, b"refused");
+    number(to, outcome.number);
+    number(to, outcome.count);
+    values(to, outcome);
     false
 }

@@ -3,10 +3,8 @@
 // nothing on standard output.
 #![tactic(auto)]
 
-use libc::{STDERR_FILENO, STDIN_FILENO};
-
-fn main() {
-    if !why_print::print_from(STDIN_FILENO) {
-        io::write_all(STDERR_FILENO, b"why: standard input cannot be read\n");
+fn main(rt: HostRuntime) {
+    if !why_print::print_from(&mut rt.stdin(), &mut rt.stdout()) {
+        let _ = rt.eprintln("why: standard input cannot be read");
     }
 }

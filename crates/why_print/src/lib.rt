@@ -1,32 +1,33 @@
-// What a descriptor holds, explained to standard output: the reading and writing of the programs that explain.
+// What a reader holds, explained to a writer: the reading and writing of the programs that explain. A write that fails
+// is passed over: whoever read the line is gone.
 #![tactic(auto)]
 
 use input::Input;
-use libc::STDOUT_FILENO;
+use std::io::{Read, Write};
 use why_text::Line;
 
-fn print_into(input: &[u8], text: &mut [u8]) {
+fn print_into<W: Write>(input: &[u8], text: &mut [u8], writer: &mut W) {
     match whying::why(input, text) {
         Line::Written(count) => {
-            io::write_all(STDOUT_FILENO, &text[..count]);
+            let _ = writer.write_all(&text[..count]);
         }
         Line::Refused(_) => {}
     }
 }
 
-fn print(input: &[u8]) {
+fn print<W: Write>(input: &[u8], writer: &mut W) {
     let mut space = [0u8; why_text::LINE_ROOM];
     let text: &mut [u8] = &mut space;
-    print_into(input, text);
+    print_into(input, text, writer);
 }
 
-// Writes the line for what a descriptor holds, and answers true; or false where it cannot be read.
-pub fn print_from(fd: i32) -> bool {
+// Writes the line for what a reader holds, and answers true; or false where it cannot be read.
+pub fn print_from<R: Read, W: Write>(reader: &mut R, writer: &mut W) -> bool {
     // The first line, the bytes behind it, and one byte more, so that a longer input shows.
     let mut buffer = [0u8; 65_544];
-    match input::read_whole(fd, &mut buffer) {
+    match input::read_whole(reader, &mut buffer) {
         Input::Bytes(count) => {
-            print(&buffer[..count]);
+            print(&buffer[..count], writer);
             true
         }
         Input::Failed => false,

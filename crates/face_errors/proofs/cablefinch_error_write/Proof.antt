@@ -4,19 +4,19 @@ use borrow.Author.Rules.{rules}
 use Rattle.face_errors.proofs.cablefinch_error_write.Statement.{statement}
 use Rattle.face_errors.proofs.cablefinch_error_write.Tie as tie
 
-encode-error-requires : tie.Need-encode-error-requires
-encode-error-requires c κs = search rules
+encode_error-requires : tie.Need-encode_error-requires
+encode_error-requires c κs = search rules
 
-encoded-outcome-requires : tie.Need-encoded-outcome-requires
-encoded-outcome-requires c κs = search rules
+encoded_outcome-requires : tie.Need-encoded_outcome-requires
+encoded_outcome-requires c κs = search rules
 
-same_length : tie.Need-same-length
+same_length : tie.Need-shape_of-out
 same_length c = search rules
 
 returns : tie.Need-returns
 returns c =
-    let e = c.before.before.before.encode-error.ensures in (told e.0 c.encoded-outcome.ensures, e.1)
+    let e = c.encode_error.ensures in (told e.0 c.encoded_outcome.ensures, e.1)
 
-pub cablefinch-error-write-spec : {M : Type 1} → statement M
-cablefinch-error-write-spec =
-    tie.close (tie.spec encode-error-requires encoded-outcome-requires same_length returns)
+pub cablefinch_error_write_spec : {M : Type 1} → statement M
+cablefinch_error_write_spec =
+    tie.close (tie.spec encode_error-requires encoded_outcome-requires same_length returns)

@@ -3,18 +3,18 @@ use borrow.Author.Rules.{rules}
 use Rattle.face_ids.proofs.cablefinch_guid_from_halves.Statement.{statement}
 use Rattle.face_ids.proofs.cablefinch_guid_from_halves.Tie as tie
 
-from-halves-requires : tie.Need-from-halves-requires
-from-halves-requires c κs = search rules
+from_halves-requires : tie.Need-from_halves-requires
+from_halves-requires c κs = search rules
 
-write-id-requires : tie.Need-write-id-requires
-write-id-requires c κs = search rules
+write_id-requires : tie.Need-write_id-requires
+write_id-requires c κs = search rules
 
-same_length : tie.Need-same-length
+same_length : tie.Need-shape_of-out
 same_length c = search rules
 
 returns : tie.Need-returns
-returns c = rw c.before.before.before.before.from_halves.ensures at c.before.before.write-id.ensures
+returns c = rw c.from_halves.ensures at c.write_id.ensures
 
-pub cablefinch-guid-from-halves-spec : {M : Type 1} → statement M
-cablefinch-guid-from-halves-spec =
-    tie.close (tie.spec from-halves-requires write-id-requires same_length returns)
+pub cablefinch_guid_from_halves_spec : {M : Type 1} → statement M
+cablefinch_guid_from_halves_spec =
+    tie.close (tie.spec from_halves-requires write_id-requires same_length returns)

@@ -5,14 +5,14 @@ use borrow.Author.Rules.{rules}
 use Rattle.face_ids.proofs.cablefinch_guid_is_null.Statement.{statement}
 use Rattle.face_ids.proofs.cablefinch_guid_is_null.Tie as tie
 
-from-bytes-requires : tie.Need-from-bytes-requires
-from-bytes-requires c κs = search rules
+from_bytes-requires : tie.Need-from_bytes-guid-requires
+from_bytes-requires c κs = search rules
 
-is-null-requires : tie.Need-is-null-requires
-is-null-requires c κs = search rules
+is_null-requires : tie.Need-is_null-requires
+is_null-requires c κs = search rules
 
 returns : tie.Need-returns
-returns c = c.is-null.ensures ∙ ap is_null c.before.from_bytes.ensures
+returns c = c.is_null.ensures ∙ ap is_null c.from_bytes-guid.ensures
 
-pub cablefinch-guid-is-null-spec : {M : Type 1} → statement M
-cablefinch-guid-is-null-spec = tie.close (tie.spec from-bytes-requires is-null-requires returns)
+pub cablefinch_guid_is_null_spec : {M : Type 1} → statement M
+cablefinch_guid_is_null_spec = tie.close (tie.spec from_bytes-requires is_null-requires returns)

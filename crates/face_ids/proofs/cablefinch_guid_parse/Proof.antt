@@ -6,11 +6,11 @@ use Rattle.face_ids.proofs.cablefinch_guid_parse.Tie as tie
 parse-requires : tie.Need-parse-requires
 parse-requires c κs = search rules
 
-parsed-outcome-requires : tie.Need-parsed-outcome-requires
-parsed-outcome-requires c κs = search rules
+parsed_outcome-requires : tie.Need-parsed_outcome-requires
+parsed_outcome-requires c κs = search rules
 
 returns : tie.Need-returns
-returns c = (c.before.parse.result, c.before.parse.ensures, c.parsed-outcome.ensures)
+returns c = (c.parse.result, c.parse.ensures, c.parsed_outcome.ensures)
 
-pub cablefinch-guid-parse-spec : {M : Type 1} → statement M
-cablefinch-guid-parse-spec = tie.close (tie.spec parse-requires parsed-outcome-requires returns)
+pub cablefinch_guid_parse_spec : {M : Type 1} → statement M
+cablefinch_guid_parse_spec = tie.close (tie.spec parse-requires parsed_outcome-requires returns)

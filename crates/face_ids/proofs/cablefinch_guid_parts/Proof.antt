@@ -8,15 +8,15 @@ use borrow.Author.Rules.{rules}
 use Rattle.face_ids.proofs.cablefinch_guid_parts.Statement.{statement}
 use Rattle.face_ids.proofs.cablefinch_guid_parts.Tie as tie
 
-from-bytes-requires : tie.Need-from-bytes-requires
-from-bytes-requires c κs = search rules
+from_bytes-requires : tie.Need-from_bytes-requires
+from_bytes-requires c κs = search rules
 
-words-outcome-requires : tie.Need-words-outcome-requires
-words-outcome-requires c κs = search rules
+words_outcome-requires : tie.Need-words_outcome-requires
+words_outcome-requires c κs = search rules
 
 returns : tie.Need-returns
-returns c = told (ap (λ (g : Guid). accepted 0 (words_of g)) c.before.from_bytes.ensures) c.words-outcome.ensures
+returns c = told (ap (λ (g : Guid). accepted 0 (words_of g)) c.from_bytes.ensures) c.words_outcome.ensures
 
-pub cablefinch-guid-parts-spec : {M : Type 1} → statement M
-cablefinch-guid-parts-spec =
-    tie.close (tie.spec from-bytes-requires words-outcome-requires returns)
+pub cablefinch_guid_parts_spec : {M : Type 1} → statement M
+cablefinch_guid_parts_spec =
+    tie.close (tie.spec from_bytes-requires words_outcome-requires returns)

@@ -11,26 +11,26 @@ use borrow.Author.Rules.{rules}
 use Rattle.face_ids.proofs.cablefinch_guid_print.Statement.{statement}
 use Rattle.face_ids.proofs.cablefinch_guid_print.Tie as tie
 
-from-bytes-requires : tie.Need-from-bytes-requires
-from-bytes-requires c κs = search rules
+from_bytes-requires : tie.Need-from_bytes-guid-requires
+from_bytes-requires c κs = search rules
 
 print-requires : tie.Need-print-requires
 print-requires c κs = search rules
 
-printed-outcome-requires : tie.Need-printed-outcome-requires
-printed-outcome-requires c κs = search rules
+printed_outcome-requires : tie.Need-printed_outcome-requires
+printed_outcome-requires c κs = search rules
 
-same_length : tie.Need-same-length
+same_length : tie.Need-shape_of-out
 same_length c = search rules
 
 returns : tie.Need-returns
 returns c =
-    let out : List ℕ = c.before.before.before.before.before.before.before.before.args.out.now in
-    let id = c.before.before.before.before.before.from_bytes.ensures in
-    let e = c.before.before.before.print.ensures in
-    (told (e.0 ∙ ap (λ (g : Guid). printing g (length out)) id) c.printed-outcome.ensures, rw id at e.1)
+    let out : List ℕ = c.args.out.now in
+    let id = c.from_bytes-guid.ensures in
+    let e = c.print.ensures in
+    (told (e.0 ∙ ap (λ (g : Guid). printing g (length out)) id) c.printed_outcome.ensures, rw id at e.1)
 
-pub cablefinch-guid-print-spec : {M : Type 1} → statement M
-cablefinch-guid-print-spec =
+pub cablefinch_guid_print_spec : {M : Type 1} → statement M
+cablefinch_guid_print_spec =
     tie.close
-    (tie.spec from-bytes-requires print-requires printed-outcome-requires same_length returns)
+    (tie.spec from_bytes-requires print-requires printed_outcome-requires same_length returns)

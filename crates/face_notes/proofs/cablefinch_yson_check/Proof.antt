@@ -7,11 +7,11 @@ use Rattle.face_notes.proofs.cablefinch_yson_check.Tie as tie
 check-requires : tie.Need-check-requires
 check-requires c κs = search rules
 
-listed-outcome-requires : tie.Need-listed-outcome-requires
-listed-outcome-requires c κs = search rules
+listed_outcome-requires : tie.Need-listed_outcome-requires
+listed_outcome-requires c κs = search rules
 
 returns : tie.Need-returns
-returns c = let e = c.before.check.ensures in (e.0, told e.1 c.listed-outcome.ensures)
+returns c = let e = c.check.ensures in (e.0, told e.1 c.listed_outcome.ensures)
 
-pub cablefinch-yson-check-spec : {M : Type 1} → statement M
-cablefinch-yson-check-spec = tie.close (tie.spec check-requires listed-outcome-requires returns)
+pub cablefinch_yson_check_spec : {M : Type 1} → statement M
+cablefinch_yson_check_spec = tie.close (tie.spec check-requires listed_outcome-requires returns)

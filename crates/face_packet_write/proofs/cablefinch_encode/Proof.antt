@@ -17,77 +17,77 @@ use borrow.Author.Rules.{rules}
 use Rattle.face_packet_write.proofs.cablefinch_encode.Statement.{statement}
 use Rattle.face_packet_write.proofs.cablefinch_encode.Tie as tie
 
-type-of-requires : tie.Need-type-of-requires
-type-of-requires c κs = search rules
+type_of-requires : tie.Need-type_of-requires
+type_of-requires c κs = search rules
 
-enum_told : tie.Need-enum-told
+enum_told : tie.Need-enum_told-1
 enum_told c = search rules
 
-unknown-type-requires : tie.Need-unknown-type-requires
-unknown-type-requires c κs = search rules
+unknown_type-requires : tie.Need-unknown_type-requires
+unknown_type-requires c κs = search rules
 
-enum-known-packet-type : tie.Need-enum-known-packet-type
-enum-known-packet-type c = search rules
+enum_known-packet_type : tie.Need-enum_known-packet_type
+enum_known-packet_type c = search rules
 
-from-bytes-requires : tie.Need-from-bytes-requires
-from-bytes-requires c κs = search rules
+from_bytes-requires : tie.Need-from_bytes-guid-requires
+from_bytes-requires c κs = search rules
 
-mode-of-requires : tie.Need-mode-of-requires
-mode-of-requires c κs = search rules
+mode_of-requires : tie.Need-mode_of-mode-requires
+mode_of-requires c κs = search rules
 
 encode-requires : tie.Need-encode-requires
 encode-requires c κs = search rules
 
-encoded-outcome-requires : tie.Need-encoded-outcome-requires
-encoded-outcome-requires c κs = search rules
+encoded_outcome-requires : tie.Need-encoded_outcome-requires
+encoded_outcome-requires c κs = search rules
 
-returns : tie.Need-returns
+returns : tie.Need-returns-in-Unknown
 returns c =
-    let a = c.before.before.before.before.before.before.before.before.args in
-    let above = rw c.before.enum_told.given.1 at c.before.before.before.type-of.ensures in
+    let a = c.args in
+    let above = rw c.in-Unknown.is at c.type_of.ensures in
     let so = typed_refused a.kind (writing (mode_of a.mode) a.kind a.area.now a.parts.now (length a.out.now)) above in
     let bytes = packet_bytes a.kind a.flags (guid_at a.id.now 0) (parts_of a.area.now a.parts.now) in
-    (told so c.unknown-type.ensures, ap (λ (x : Answer). afterwards x bytes a.out.now) so)
+    (told so c.unknown_type.ensures, ap (λ (x : Answer). afterwards x bytes a.out.now) so)
 
-same_length : tie.Need-same-length
+same_length : tie.Need-shape_of-out
 same_length c = search rules
 
-returns-2 : tie.Need-returns-2
+returns-2 : tie.Need-returns-in-Known
 returns-2 c =
-    let call = c.before.before.before in
-    let moded = call.before.before in
-    let identified = moded.before in
-    let typed = identified.before.before.before.before in
-    let a = typed.before.before.before.before.before.args in
+    let call = c in
+    let moded = call in
+    let identified = moded in
+    let typed = identified in
+    let a = typed.args in
     let mode : Mode = mode_of a.mode in
     let area : List ℕ = a.area.now in
     let parts : List ℕ = a.parts.now in
     let out : List ℕ = a.out.now in
-    let found = identified.before.before.packet-type.given in
-    let type = rw found.1 at typed.type-of.ensures in
-    let id = identified.from_bytes.ensures in
-    let e = rw moded.Mode-of.ensures at call.encode.ensures in
-    let known : a.kind ≤ last_type = number_known found.0.0 type in
+    let found = identified.in-Known in
+    let type = rw found.is at typed.type_of.ensures in
+    let id = identified.from_bytes-guid.ensures in
+    let e = rw moded.mode_of-mode.ensures at call.encode.ensures in
+    let known : a.kind ≤ last_type = number_known found.packet_type type in
     let so = typed_known a.kind (writing mode a.kind area parts (length out)) known in (
-      told (e.answer ∙ ap (λ (k : ℕ). writing mode k area parts (length out)) type ∙ so) c.encoded-outcome.ensures,
+      told (e.answer ∙ ap (λ (k : ℕ). writing mode k area parts (length out)) type ∙ so) c.encoded_outcome.ensures,
       e.output
-          ∙ ap (λ (k : ℕ). afterwards (writing mode k area parts (length out)) (packet_bytes k a.flags identified.from_bytes.result (parts_of area parts)) out) type
+          ∙ ap (λ (k : ℕ). afterwards (writing mode k area parts (length out)) (packet_bytes k a.flags identified.from_bytes-guid.result (parts_of area parts)) out) type
           ∙ ap (λ (g : Guid). afterwards (writing mode a.kind area parts (length out)) (packet_bytes a.kind a.flags g (parts_of area parts)) out) id
           ∙ ap (λ (x : Answer). afterwards x (packet_bytes a.kind a.flags (guid_at a.id.now 0) (parts_of area parts)) out) so,
     )
 
-pub cablefinch-encode-spec : {M : Type 1} → statement M
-cablefinch-encode-spec =
+pub cablefinch_encode_spec : {M : Type 1} → statement M
+cablefinch_encode_spec =
     tie.close
     (tie.spec
-    type-of-requires
+    type_of-requires
     enum_told
-    unknown-type-requires
-    enum-known-packet-type
-    from-bytes-requires
-    mode-of-requires
+    unknown_type-requires
+    enum_known-packet_type
+    from_bytes-requires
+    mode_of-requires
     encode-requires
-    encoded-outcome-requires
+    encoded_outcome-requires
     returns
     same_length
     returns-2)

@@ -10,53 +10,53 @@ use borrow.Author.Rules.{rules}
 use Rattle.face_parts.proofs.cablefinch_encoded_size.Statement.{statement}
 use Rattle.face_parts.proofs.cablefinch_encoded_size.Tie as tie
 
-type-of-requires : tie.Need-type-of-requires
-type-of-requires c κs = search rules
+type_of-requires : tie.Need-type_of-requires
+type_of-requires c κs = search rules
 
-enum_told : tie.Need-enum-told
+enum_told : tie.Need-enum_told-1
 enum_told c = search rules
 
-unknown-type-requires : tie.Need-unknown-type-requires
-unknown-type-requires c κs = search rules
+unknown_type-requires : tie.Need-unknown_type-requires
+unknown_type-requires c κs = search rules
 
-enum-known-packet-type : tie.Need-enum-known-packet-type
-enum-known-packet-type c = search rules
+enum_known-packet_type : tie.Need-enum_known-packet_type
+enum_known-packet_type c = search rules
 
-mode-of-requires : tie.Need-mode-of-requires
-mode-of-requires c κs = search rules
+mode_of-requires : tie.Need-mode_of-mode-requires
+mode_of-requires c κs = search rules
 
-encoded-size-requires : tie.Need-encoded-size-requires
-encoded-size-requires c κs = search rules
+encoded_size-requires : tie.Need-encoded_size-requires
+encoded_size-requires c κs = search rules
 
-measured-outcome-requires : tie.Need-measured-outcome-requires
-measured-outcome-requires c κs = search rules
+measured_outcome-requires : tie.Need-measured_outcome-requires
+measured_outcome-requires c κs = search rules
 
-returns : tie.Need-returns
+returns : tie.Need-returns-in-Unknown
 returns c =
-    let above = rw c.before.enum_told.given.1 at c.before.before.before.type-of.ensures in
-    told (typed_refused _ _ above) c.unknown-type.ensures
+    let above = rw c.in-Unknown.is at c.type_of.ensures in
+    told (typed_refused _ _ above) c.unknown_type.ensures
 
-returns-2 : tie.Need-returns-2
+returns-2 : tie.Need-returns-in-Known
 returns-2 c =
-    let call = c.before in
-    let typed = call.before.before.before.before.before in
-    let a = typed.before.before.before.args in
-    let found = call.before.before.before.packet-type.given in
-    let type = rw found.1 at typed.type-of.ensures in
-    let e = rw call.before.Mode-of.ensures at call.encoded-size.ensures in
-    let known : a.kind ≤ last_type = number_known found.0.0 type in
-    told (e ∙ ap (λ (k : ℕ). sizing (mode_of a.mode) k a.area.now a.parts.now) type ∙ typed_known _ _ known) c.measured-outcome.ensures
+    let call = c in
+    let typed = call in
+    let a = typed.args in
+    let found = call.in-Known in
+    let type = rw found.is at typed.type_of.ensures in
+    let e = rw call.before.mode_of-mode.ensures at call.encoded_size.ensures in
+    let known : a.kind ≤ last_type = number_known found.packet_type type in
+    told (e ∙ ap (λ (k : ℕ). sizing (mode_of a.mode) k a.area.now a.parts.now) type ∙ typed_known _ _ known) c.measured_outcome.ensures
 
-pub cablefinch-encoded-size-spec : {M : Type 1} → statement M
-cablefinch-encoded-size-spec =
+pub cablefinch_encoded_size_spec : {M : Type 1} → statement M
+cablefinch_encoded_size_spec =
     tie.close
     (tie.spec
-    type-of-requires
+    type_of-requires
     enum_told
-    unknown-type-requires
-    enum-known-packet-type
-    mode-of-requires
-    encoded-size-requires
-    measured-outcome-requires
+    unknown_type-requires
+    enum_known-packet_type
+    mode_of-requires
+    encoded_size-requires
+    measured_outcome-requires
     returns
     returns-2)

@@ -6,38 +6,38 @@ use borrow.Author.Rules.{rules}
 use Rattle.face_parts.proofs.cablefinch_part.Statement.{statement}
 use Rattle.face_parts.proofs.cablefinch_part.Tie as tie
 
-part-requires : tie.Need-part-requires
+part-requires : tie.Need-part-length-requires
 part-requires c κs = search rules
 
 taken-requires : tie.Need-taken-requires
 taken-requires c κs = search rules
 
-returns : tie.Need-returns
-returns c = part_empty _ _ _ c.before.before.part.ensures.bytes c.before.if1.true c.taken.ensures
+returns : tie.Need-returns-then-length-eq0
+returns c = part_empty _ _ _ c.part-length.ensures.bytes c.if-length-eq0.true c.taken.ensures
 
-taken-requires-2 : tie.Need-taken-requires-2
+taken-requires-2 : tie.Need-taken-requires-then-parts-index
 taken-requires-2 c κs = search rules
 
-returns-2 : tie.Need-returns-2
-returns-2 c = part_empty _ _ _ (part_outside _ _ _ c.before.if2.true) refl c.taken2.ensures
+returns-2 : tie.Need-returns-then-parts-index
+returns-2 c = part_empty _ _ _ (part_outside _ _ _ c.if-parts-index.true) refl c.taken-then-parts-index.ensures
 
-mul-taken : tie.Need-overflow-mul-taken
+mul-taken : tie.Need-overflow_mul-index
 mul-taken c = search rules
 
-mul-taken-2 : tie.Need-overflow-mul-taken-2
+mul-taken-2 : tie.Need-offset_bounds-parts-index
 mul-taken-2 c = search rules
 
-shared-slice-read-taken : tie.Need-shared-slice-read-taken
-shared-slice-read-taken c = search rules
+shared_slice_read-taken : tie.Need-bounds-parts-index
+shared_slice_read-taken c = search rules
 
-taken-requires-3 : tie.Need-taken-requires-3
+taken-requires-3 : tie.Need-taken-requires-2
 taken-requires-3 c κs = search rules
 
-returns-3 : tie.Need-returns-3
-returns-3 c = part_there _ _ _ c.before.before.before.before.part.ensures.bytes (ne_eqb _ 0 c.before.before.before.if1.false) refl c.taken3.ensures
+returns-3 : tie.Need-returns
+returns-3 c = part_there _ _ _ c.part-length.ensures.bytes (ne_eqb _ 0 c.if-length-eq0.false) refl c.taken-2.ensures
 
-pub cablefinch-part-spec : {M : Type 1} → statement M
-cablefinch-part-spec =
+pub cablefinch_part_spec : {M : Type 1} → statement M
+cablefinch_part_spec =
     tie.close
     (tie.spec
     part-requires
@@ -47,6 +47,6 @@ cablefinch-part-spec =
     returns-2
     mul-taken
     mul-taken-2
-    shared-slice-read-taken
+    shared_slice_read-taken
     taken-requires-3
     returns-3)

@@ -4,21 +4,21 @@ use borrow.Author.Rules.{rules}
 use Rattle.face_rowsets.proofs.cablefinch_decode_rowset.Statement.{statement}
 use Rattle.face_rowsets.proofs.cablefinch_decode_rowset.Tie as tie
 
-decode-rowset-requires : tie.Need-decode-rowset-requires
-decode-rowset-requires c κs = search rules
+decode_rowset-requires : tie.Need-decode_rowset-requires
+decode_rowset-requires c κs = search rules
 
-decoded-outcome-requires : tie.Need-decoded-outcome-requires
-decoded-outcome-requires c κs = search rules
+decoded_outcome-requires : tie.Need-decoded_outcome-requires
+decoded_outcome-requires c κs = search rules
 
-same_length : tie.Need-same-length
+same_length : tie.Need-shape_of-rows
 same_length c = search rules
 
-same-length-2 : tie.Need-same-length-2
-same-length-2 c = search rules
+same_length-2 : tie.Need-shape_of-values
+same_length-2 c = search rules
 
 returns : tie.Need-returns
-returns c = let e = c.before.before.before.before.before.decode-rowset.ensures in (told e.0 c.decoded-outcome.ensures, e.1, e.2)
+returns c = let e = c.decode_rowset.ensures in (told e.0 c.decoded_outcome.ensures, e.1, e.2)
 
-pub cablefinch-decode-rowset-spec : {M : Type 1} → statement M
-cablefinch-decode-rowset-spec =
-    tie.close (tie.spec decode-rowset-requires decoded-outcome-requires same_length same-length-2 returns)
+pub cablefinch_decode_rowset_spec : {M : Type 1} → statement M
+cablefinch_decode_rowset_spec =
+    tie.close (tie.spec decode_rowset-requires decoded_outcome-requires same_length same_length-2 returns)

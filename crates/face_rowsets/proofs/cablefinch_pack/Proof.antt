@@ -10,15 +10,15 @@ pack-requires c κs = search rules
 outcome-requires : tie.Need-outcome-requires
 outcome-requires c κs = search rules
 
-same_length : tie.Need-same-length
+same_length : tie.Need-shape_of-values
 same_length c = search rules
 
-same-length-2 : tie.Need-same-length-2
-same-length-2 c = search rules
+same_length-2 : tie.Need-shape_of-out
+same_length-2 c = search rules
 
 returns : tie.Need-returns
-returns c = let e = c.before.before.before.before.before.pack.ensures in (told e.0 c.outcome.ensures, e.1, e.2)
+returns c = let e = c.pack.ensures in (told e.0 c.outcome.ensures, e.1, e.2)
 
-pub cablefinch-pack-spec : {M : Type 1} → statement M
-cablefinch-pack-spec =
-    tie.close (tie.spec pack-requires outcome-requires same_length same-length-2 returns)
+pub cablefinch_pack_spec : {M : Type 1} → statement M
+cablefinch_pack_spec =
+    tie.close (tie.spec pack-requires outcome-requires same_length same_length-2 returns)

@@ -4,14 +4,14 @@ use borrow.Author.Rules.{rules}
 use Rattle.face_rowsets.proofs.cablefinch_read_value.Statement.{statement}
 use Rattle.face_rowsets.proofs.cablefinch_read_value.Tie as tie
 
-read-value-requires : tie.Need-read-value-requires
-read-value-requires c κs = search rules
+read_value-requires : tie.Need-read_value-requires
+read_value-requires c κs = search rules
 
 outcome-requires : tie.Need-outcome-requires
 outcome-requires c κs = search rules
 
 returns : tie.Need-returns
-returns c = told c.before.read-value.ensures.0 c.outcome.ensures
+returns c = told c.read_value.ensures.0 c.outcome.ensures
 
-pub cablefinch-read-value-spec : {M : Type 1} → statement M
-cablefinch-read-value-spec = tie.close (tie.spec read-value-requires outcome-requires returns)
+pub cablefinch_read_value_spec : {M : Type 1} → statement M
+cablefinch_read_value_spec = tie.close (tie.spec read_value-requires outcome-requires returns)

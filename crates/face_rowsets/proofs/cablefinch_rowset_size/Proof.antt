@@ -4,14 +4,14 @@ use borrow.Author.Rules.{rules}
 use Rattle.face_rowsets.proofs.cablefinch_rowset_size.Statement.{statement}
 use Rattle.face_rowsets.proofs.cablefinch_rowset_size.Tie as tie
 
-encoded-size-requires : tie.Need-encoded-size-requires
-encoded-size-requires c κs = search rules
+encoded_size-requires : tie.Need-encoded_size-requires
+encoded_size-requires c κs = search rules
 
 outcome-requires : tie.Need-outcome-requires
 outcome-requires c κs = search rules
 
 returns : tie.Need-returns
-returns c = told c.before.encoded-size.ensures.0 c.outcome.ensures
+returns c = told c.encoded_size.ensures.0 c.outcome.ensures
 
-pub cablefinch-rowset-size-spec : {M : Type 1} → statement M
-cablefinch-rowset-size-spec = tie.close (tie.spec encoded-size-requires outcome-requires returns)
+pub cablefinch_rowset_size_spec : {M : Type 1} → statement M
+cablefinch_rowset_size_spec = tie.close (tie.spec encoded_size-requires outcome-requires returns)

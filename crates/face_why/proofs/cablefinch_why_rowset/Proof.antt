@@ -10,7 +10,7 @@ outcome-requires : tie.Need-outcome-requires
 outcome-requires c κs = search rules
 
 returns : tie.Need-returns
-returns c = (c.before.explain.result, c.before.explain.ensures, c.outcome.ensures)
+returns c = (c.explain.result, c.explain.ensures, c.outcome.ensures)
 
-pub cablefinch-why-rowset-spec : {M : Type 1} → statement M
-cablefinch-why-rowset-spec = tie.close (tie.spec explain-requires outcome-requires returns)
+pub cablefinch_why_rowset_spec : {M : Type 1} → statement M
+cablefinch_why_rowset_spec = tie.close (tie.spec explain-requires outcome-requires returns)

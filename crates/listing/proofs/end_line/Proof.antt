@@ -5,25 +5,22 @@ use borrow.Author.Rules.{rules}
 use Rattle.listing.proofs.end_line.Statement.{statement}
 use Rattle.listing.proofs.end_line.Tie as tie
 
-slice-aggregate-put-bytes : tie.Need-slice-aggregate-put-bytes
-slice-aggregate-put-bytes c = search rules
+put_bytes-requires : tie.Need-put_bytes-offset_at-requires
+put_bytes-requires c κs = search rules
 
-put-bytes-requires : tie.Need-put-bytes-requires
-put-bytes-requires c κs = search rules
+put_field-requires : tie.Need-put_field-requires
+put_field-requires c κs = search rules
 
-put-field-requires : tie.Need-put-field-requires
-put-field-requires c κs = search rules
-
-same_length : tie.Need-same-length
+same_length : tie.Need-shape_of-out
 same_length c = search rules
 
 returns : tie.Need-returns
 returns c =
-    let start = c.before.before.before.before.before.before.before.before.before.before in
-    let word = c.before.before.before.before.before.before.put-bytes.ensures in
-    wrote_as (end_text start.args.offset) (wrote_then (omega (arith, word.ends)) word c.before.before.put-field.ensures.0)
+    let start = c in
+    let word = c.put_bytes-offset_at.ensures in
+    wrote_as (end_text start.args.offset) (wrote_then (omega (arith, word.ends)) word c.put_field.ensures.0)
 
-pub end-line-spec : {M : Type 1} → statement M
-end-line-spec =
+pub end_line_spec : {M : Type 1} → statement M
+end_line_spec =
     tie.close
-    (tie.spec slice-aggregate-put-bytes put-bytes-requires put-field-requires same_length returns)
+    (tie.spec put_bytes-requires put_field-requires same_length returns)

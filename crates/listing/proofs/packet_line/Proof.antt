@@ -5,58 +5,55 @@ use borrow.Author.Rules.{rules}
 use Rattle.listing.proofs.packet_line.Statement.{statement}
 use Rattle.listing.proofs.packet_line.Tie as tie
 
-slice-aggregate-put-bytes : tie.Need-slice-aggregate-put-bytes
-slice-aggregate-put-bytes c = search rules
+put_bytes-requires : tie.Need-put_bytes-type_at-requires
+put_bytes-requires c κs = search rules
 
-put-bytes-requires : tie.Need-put-bytes-requires
-put-bytes-requires c κs = search rules
+put_field-requires : tie.Need-put_field-flags_at-requires
+put_field-requires c κs = search rules
 
-put-field-requires : tie.Need-put-field-requires
-put-field-requires c κs = search rules
-
-cast-flags : tie.Need-overflow-cast-flags
+cast-flags : tie.Need-overflow_cast-flags
 cast-flags c = search rules
 
-type-number-requires : tie.Need-type-number-requires
-type-number-requires c κs = search rules
+type_number-requires : tie.Need-type_number-requires
+type_number-requires c κs = search rules
 
-cast-put-field : tie.Need-overflow-cast-put-field
-cast-put-field c = search rules
+cast-put_field : tie.Need-overflow_cast-type_number
+cast-put_field c = search rules
 
-put-field-requires-2 : tie.Need-put-field-requires-2
-put-field-requires-2 c κs = search rules
+put_field-requires-2 : tie.Need-put_field-id_at-requires
+put_field-requires-2 c κs = search rules
 
-put-field-requires-3 : tie.Need-put-field-requires-3
-put-field-requires-3 c κs = search rules
+put_field-requires-3 : tie.Need-put_field-parts_at-requires
+put_field-requires-3 c κs = search rules
 
-put-id-requires : tie.Need-put-id-requires
-put-id-requires c κs = search rules
+put_id-requires : tie.Need-put_id-count_at-requires
+put_id-requires c κs = search rules
 
-cast-put-field-2 : tie.Need-overflow-cast-put-field-2
-cast-put-field-2 c = search rules
+cast-put_field-2 : tie.Need-overflow_cast-packet
+cast-put_field-2 c = search rules
 
-put-field-requires-4 : tie.Need-put-field-requires-4
-put-field-requires-4 c κs =
-    let put-bytes = c.before.before.before.before.before.before.before.before.before.before.before.before.before.before.before.before.before.before.before.before.before.before.before.put-bytes in
-    let put-field = c.before.before.before.before.before.before.before.before.before.before.before.before.before.before.before.before.before.before.before.put-field in
-    let put-field2 = c.before.before.before.before.before.before.before.before.before.before.before.before.before.put-field2 in
-    let put-field3 = c.before.before.before.before.before.before.before.before.before.put-field3 in
-    let put_id = c.before.before.before.before.put_id in
-    omega (arith, c.before.before.before.before.before.before.before.before.before.before.before.before.before.before.before.before.before.before.before.before.before.before.before.before.before.before.before.requires, put-bytes.ensures.ends, put-field.ensures.1, put-field2.ensures.1, put-field3.ensures.1, put_id.ensures.1, put-bytes.auto.0, put-field.auto.0, put-field2.auto.0, put-field3.auto.0, put_id.auto.0)
+put_field-requires-4 : tie.Need-put_field-requires
+put_field-requires-4 c κs =
+    let put-bytes = c.put_bytes-type_at in
+    let put-field = c.put_field-flags_at in
+    let put-field2 = c.put_field-id_at in
+    let put-field3 = c.put_field-parts_at in
+    let put_id = c.put_id-count_at in
+    omega (arith, c.requires, put-bytes.ensures.ends, put-field.ensures.1, put-field2.ensures.1, put-field3.ensures.1, put_id.ensures.1, put-bytes.auto.out, put-field.auto.out, put-field2.auto.out, put-field3.auto.out, put_id.auto.out)
 
-same_length : tie.Need-same-length
-same_length c = omega (arith, c.before.before.before.before.before.before.before.before.before.before.before.before.before.before.before.before.before.before.before.before.before.before.before.before.before.before.put-bytes.auto.0, c.before.before.before.before.before.before.before.before.before.before.before.before.before.before.before.before.before.before.before.before.before.before.put-field.auto.0, c.before.before.before.before.before.before.before.before.before.before.before.before.before.before.before.before.put-field2.auto.0, c.before.before.before.before.before.before.before.before.before.before.before.before.put-field3.auto.0, c.before.before.before.before.before.before.before.put_id.auto.0, c.before.before.put-field4.auto.0)
+same_length : tie.Need-shape_of-out
+same_length c = omega (arith, c.put_bytes-type_at.auto.out, c.put_field-flags_at.auto.out, c.put_field-id_at.auto.out, c.put_field-parts_at.auto.out, c.put_id-count_at.auto.out, c.put_field.auto.out)
 
 returns : tie.Need-returns
 returns c =
-    let type-number = c.before.before.before.before.before.before.before.before.before.before.before.before.before.before.before.before.before.type-number in
-    let start = c.before.before.before.before.before.before.before.before.before.before.before.before.before.before.before.before.before.before.before.before.before.before.before.before.before.before.before.before.before.before in
-    let word = c.before.before.before.before.before.before.before.before.before.before.before.before.before.before.before.before.before.before.before.before.before.before.before.before.before.before.put-bytes.ensures in
-    let offset = c.before.before.before.before.before.before.before.before.before.before.before.before.before.before.before.before.before.before.before.before.before.before.put-field.ensures in
-    let type = c.before.before.before.before.before.before.before.before.before.before.before.before.before.before.before.before.put-field2.ensures in
-    let flags = c.before.before.before.before.before.before.before.before.before.before.before.before.put-field3.ensures in
-    let id = c.before.before.before.before.before.before.before.put_id.ensures in
-    let parts = c.before.before.put-field4.ensures in
+    let type-number = c.type_number in
+    let start = c in
+    let word = c.put_bytes-type_at.ensures in
+    let offset = c.put_field-flags_at.ensures in
+    let type = c.put_field-id_at.ensures in
+    let flags = c.put_field-parts_at.ensures in
+    let id = c.put_id-count_at.ensures in
+    let parts = c.put_field.ensures in
     let room = start.requires in
     let w1 = wrote_then (omega (arith, word.ends)) word offset.0 in
     let w2 = wrote_then (omega (arith, word.ends, offset.1)) w1 type.0 in
@@ -65,20 +62,19 @@ returns c =
     let w5 = wrote_then (omega (arith, word.ends, offset.1, type.1, flags.1, id.1)) w4 parts.0 in
     (wrote_as (packet_text start.args.offset type-number.result start.args.packet type-number.ensures) w5, omega (arith, word.ends, offset.1, type.1, flags.1, id.1, parts.1))
 
-pub packet-line-spec : {M : Type 1} → statement M
-packet-line-spec =
+pub packet_line_spec : {M : Type 1} → statement M
+packet_line_spec =
     tie.close
     (tie.spec
-    slice-aggregate-put-bytes
-    put-bytes-requires
-    put-field-requires
+    put_bytes-requires
+    put_field-requires
     cast-flags
-    type-number-requires
-    cast-put-field
-    put-field-requires-2
-    put-field-requires-3
-    put-id-requires
-    cast-put-field-2
-    put-field-requires-4
+    type_number-requires
+    cast-put_field
+    put_field-requires-2
+    put_field-requires-3
+    put_id-requires
+    cast-put_field-2
+    put_field-requires-4
     same_length
     returns)

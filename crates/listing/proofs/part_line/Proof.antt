@@ -5,36 +5,32 @@ use borrow.Author.Rules.{rules}
 use Rattle.listing.proofs.part_line.Statement.{statement}
 use Rattle.listing.proofs.part_line.Tie as tie
 
-slice-aggregate-put-bytes : tie.Need-slice-aggregate-put-bytes
-slice-aggregate-put-bytes c = search rules
+put_bytes-requires : tie.Need-put_bytes-index_at-requires
+put_bytes-requires c κs = search rules
 
-put-bytes-requires : tie.Need-put-bytes-requires
-put-bytes-requires c κs = search rules
+put_field-requires : tie.Need-put_field-length_at-requires
+put_field-requires c κs = search rules
 
-put-field-requires : tie.Need-put-field-requires
-put-field-requires c κs = search rules
+put_entry-requires : tie.Need-put_entry-requires
+put_entry-requires c κs = search rules
 
-put-entry-requires : tie.Need-put-entry-requires
-put-entry-requires c κs = search rules
-
-same_length : tie.Need-same-length
+same_length : tie.Need-shape_of-out
 same_length c = search rules
 
 returns : tie.Need-returns
 returns c =
-    let start = c.before.before.before.before.before.before.before.before.before.before.before.before.before.before in
-    let word = c.before.before.before.before.before.before.before.before.before.before.put-bytes.ensures in
-    let index = c.before.before.before.before.before.before.put-field.ensures in
-    let entry = c.before.before.put-entry.ensures in
+    let start = c in
+    let word = c.put_bytes-index_at.ensures in
+    let index = c.put_field-length_at.ensures in
+    let entry = c.put_entry.ensures in
     (wrote_as (part_text start.args.index start.args.size start.args.sum) (wrote_then (omega (arith, word.ends, index.1)) (wrote_then (omega (arith, word.ends)) word index.0) entry.0), omega (arith, word.ends, index.1, entry.1))
 
-pub part-line-spec : {M : Type 1} → statement M
-part-line-spec =
+pub part_line_spec : {M : Type 1} → statement M
+part_line_spec =
     tie.close
     (tie.spec
-    slice-aggregate-put-bytes
-    put-bytes-requires
-    put-field-requires
-    put-entry-requires
+    put_bytes-requires
+    put_field-requires
+    put_entry-requires
     same_length
     returns)

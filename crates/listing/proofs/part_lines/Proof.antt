@@ -10,65 +10,65 @@ use Rattle.listing.proofs.TextLaws.{no_parts, part_more, parts_all}
 use Rattle.listing.proofs.part_lines.Statement.{statement}
 use Rattle.listing.proofs.part_lines.Tie as tie
 
-abbrev invariant-loop : tie.invariant-loop
+abbrev invariant-loop : tie.invariant-loop-index
 invariant-loop out₀ at parts count next₀ index₀ out next index = (index ≤ count) × (length out ≡ length out₀) × (next ≤ at + 55 * index) × Wrote (part_lines parts index) at out₀ next out
 
-abbrev decreases-loop : tie.decreases-loop
+abbrev decreases-loop : tie.decreases-loop-index
 decreases-loop out₀ at parts count next₀ index₀ out next index = count - index
 
-loop-holds : tie.Need-loop-init invariant-loop decreases-loop
-loop-holds c = (omega arith, refl, omega arith, no_parts c.before.before.args.parts.now c.before.before.args.at c.before.before.args.out.now)
+loop-holds : tie.Need-loop-index-init invariant-loop decreases-loop
+loop-holds c = (omega arith, refl, omega arith, no_parts c.args.parts.now c.args.at c.args.out.now)
 
-mul-size : tie.Need-overflow-mul-size invariant-loop decreases-loop
+mul-size : tie.Need-overflow_mul-size invariant-loop decreases-loop
 mul-size c = omega arith
 
-add-size : tie.Need-overflow-add-size invariant-loop decreases-loop
+add-size : tie.Need-overflow_add-size invariant-loop decreases-loop
 add-size c = omega arith
 
-mul-size-2 : tie.Need-overflow-mul-size-2 invariant-loop decreases-loop
+mul-size-2 : tie.Need-offset_bounds-parts-index invariant-loop decreases-loop
 mul-size-2 c = omega arith
 
-shared-slice-read-size : tie.Need-shared-slice-read-size invariant-loop decreases-loop
-shared-slice-read-size c = omega arith
+shared_slice_read-size : tie.Need-bounds-parts-index invariant-loop decreases-loop
+shared_slice_read-size c = omega arith
 
-mul-sum : tie.Need-overflow-mul-sum invariant-loop decreases-loop
+mul-sum : tie.Need-overflow_mul-sum invariant-loop decreases-loop
 mul-sum c = omega arith
 
-add-sum : tie.Need-overflow-add-sum invariant-loop decreases-loop
+add-sum : tie.Need-overflow_add-sum invariant-loop decreases-loop
 add-sum c = omega arith
 
-mul-sum-2 : tie.Need-overflow-mul-sum-2 invariant-loop decreases-loop
+mul-sum-2 : tie.Need-offset_bounds-parts-index-in-loop-index invariant-loop decreases-loop
 mul-sum-2 c = omega arith
 
-shared-slice-read-sum : tie.Need-shared-slice-read-sum invariant-loop decreases-loop
-shared-slice-read-sum c = omega arith
+shared_slice_read-sum : tie.Need-bounds-parts-index-in-loop-index invariant-loop decreases-loop
+shared_slice_read-sum c = omega arith
 
-part-line-requires : tie.Need-part-line-requires invariant-loop decreases-loop
-part-line-requires c κs = omega arith
+part_line-requires : tie.Need-part_line-next-requires invariant-loop decreases-loop
+part_line-requires c κs = omega arith
 
-add-index : tie.Need-overflow-add-index invariant-loop decreases-loop
+add-index : tie.Need-overflow_add-index invariant-loop decreases-loop
 add-index c = omega arith
 
-loop-less : tie.Need-loop-smaller invariant-loop decreases-loop
+loop-less : tie.Need-loop-index-smaller invariant-loop decreases-loop
 loop-less c = omega arith
 
-loop-again : tie.Need-loop-preserved invariant-loop decreases-loop
+loop-again : tie.Need-loop-index-preserved invariant-loop decreases-loop
 loop-again c =
-    let turn = c.before.before.before.before.before.before.before in
-    let at_top = turn.loop.invariant in
-    let done = c.before.before.part-line in
-    (omega arith, done.auto.0 ∙ at_top.1, omega (arith, done.ensures.1), part_more c.before.before.before.before.before.before.before.before.before.before.args.parts.now turn.loop.index (omega arith) at_top.3 done.ensures.0)
+    let turn = c in
+    let at_top = turn.loop-index.invariant in
+    let done = c.part_line-next in
+    (omega arith, done.auto.out ∙ at_top.1, omega (arith, done.ensures.1), part_more c.args.parts.now turn.loop-index.index (omega arith) at_top.3 done.ensures.0)
 
-same_length : tie.Need-same-length invariant-loop decreases-loop
-same_length c = c.before.loop.invariant.1
+same_length : tie.Need-shape_of-out invariant-loop decreases-loop
+same_length c = c.loop-index.invariant.1
 
 returns : tie.Need-returns invariant-loop decreases-loop
 returns c =
-    let start = c.before.before.before.before in
-    (parts_all start.args.parts.now c.before.loop.index start.args.count c.before.loop.invariant.0 c.loop-test.false c.before.loop.invariant.3, omega arith)
+    let start = c in
+    (parts_all start.args.parts.now c.loop-index.index start.args.count c.loop-index.invariant.0 c.loop-index-test.false c.loop-index.invariant.3, omega arith)
 
-pub part-lines-spec : {M : Type 1} → statement M
-part-lines-spec =
+pub part_lines_spec : {M : Type 1} → statement M
+part_lines_spec =
     tie.close
     (tie.spec
     invariant-loop
@@ -77,12 +77,12 @@ part-lines-spec =
     mul-size
     add-size
     mul-size-2
-    shared-slice-read-size
+    shared_slice_read-size
     mul-sum
     add-sum
     mul-sum-2
-    shared-slice-read-sum
-    part-line-requires
+    shared_slice_read-sum
+    part_line-requires
     add-index
     loop-less
     loop-again

@@ -5,46 +5,42 @@ use borrow.Author.Rules.{rules}
 use Rattle.listing.proofs.put_entry.Statement.{statement}
 use Rattle.listing.proofs.put_entry.Tie as tie
 
-slice-aggregate-put-bytes : tie.Need-slice-aggregate-put-bytes
-slice-aggregate-put-bytes c = search rules
+put_bytes-requires : tie.Need-put_bytes-requires
+put_bytes-requires c κs = search rules
 
-put-bytes-requires : tie.Need-put-bytes-requires
-put-bytes-requires c κs = search rules
-
-same_length : tie.Need-same-length
+same_length : tie.Need-shape_of-out-then-size-eq-NULL_LENGTH
 same_length c = search rules
 
-returns : tie.Need-returns
+returns : tie.Need-returns-then-size-eq-NULL_LENGTH
 returns c =
-    let start = c.before.before.before.before.before.before.before in
-    let word = c.before.before.put-bytes.ensures in
-    (wrote_as (null_entry start.args.size start.args.sum c.before.before.before.before.before.if1.true) word, omega (arith, word.ends))
+    let start = c in
+    let word = c.put_bytes.ensures in
+    (wrote_as (null_entry start.args.size start.args.sum c.if-size-eq-NULL_LENGTH.true) word, omega (arith, word.ends))
 
-put-field-requires : tie.Need-put-field-requires
-put-field-requires c κs = search rules
+put_field-requires : tie.Need-put_field-guard_at-requires
+put_field-requires c κs = search rules
 
-put-guard-requires : tie.Need-put-guard-requires
-put-guard-requires c κs = search rules
+put_guard-requires : tie.Need-put_guard-requires
+put_guard-requires c κs = search rules
 
-same-length-2 : tie.Need-same-length-2
-same-length-2 c = search rules
+same_length-2 : tie.Need-shape_of-out
+same_length-2 c = search rules
 
-returns-2 : tie.Need-returns-2
+returns-2 : tie.Need-returns
 returns-2 c =
-    let start = c.before.before.before.before.before.before.before.before.before.before in
-    let number = c.before.before.before.before.before.before.put-field.ensures in
-    let guard = c.before.before.put-guard.ensures in
-    (wrote_as (some_entry start.args.size start.args.sum c.before.before.before.before.before.before.before.before.if1.false) (wrote_then (omega (arith, number.1)) number.0 guard.0), omega (arith, number.1, guard.1))
+    let start = c in
+    let number = c.put_field-guard_at.ensures in
+    let guard = c.put_guard.ensures in
+    (wrote_as (some_entry start.args.size start.args.sum c.if-size-eq-NULL_LENGTH.false) (wrote_then (omega (arith, number.1)) number.0 guard.0), omega (arith, number.1, guard.1))
 
-pub put-entry-spec : {M : Type 1} → statement M
-put-entry-spec =
+pub put_entry_spec : {M : Type 1} → statement M
+put_entry_spec =
     tie.close
     (tie.spec
-    slice-aggregate-put-bytes
-    put-bytes-requires
+    put_bytes-requires
     same_length
     returns
-    put-field-requires
-    put-guard-requires
-    same-length-2
+    put_field-requires
+    put_guard-requires
+    same_length-2
     returns-2)

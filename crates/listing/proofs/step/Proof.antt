@@ -7,130 +7,130 @@ use borrow.Author.Rules.{rules}
 use Rattle.listing.proofs.step.Statement.{statement}
 use Rattle.listing.proofs.step.Tie as tie
 
-end-line-requires : tie.Need-end-line-requires
-end-line-requires c κs = search rules
+end_line-requires : tie.Need-end_line-requires
+end_line-requires c κs = search rules
 
-same_length : tie.Need-same-length
+same_length : tie.Need-shape_of-out-then-input-offset
 same_length c = search rules
 
-returns : tie.Need-returns
-returns c = let a = c.before.before.before.before.before.before.before.before.args in
-    ends_here a.input.now a.offset a.at a.out.now c.before.before.before.before.if1.true c.before.before.end_line.ensures
+returns : tie.Need-returns-then-input-offset
+returns c = let a = c.args in
+    ends_here a.input.now a.offset a.at a.out.now c.if-input-offset.true c.end_line.ensures
 
-sub-decode-with : tie.Need-overflow-sub-decode-with
-sub-decode-with c = search rules
+sub-decode_with : tie.Need-slice_bounds-decode_with-count
+sub-decode_with c = search rules
 
-part-decode-with-start : tie.Need-slice-bounds-decode-with-start
-part-decode-with-start c = search rules
+part-decode_with-start : tie.Need-slice_bounds-decode_with-start
+part-decode_with-start c = search rules
 
-part-decode-with-end : tie.Need-slice-bounds-decode-with-end
-part-decode-with-end c = search rules
+part-decode_with-end : tie.Need-slice_bounds-decode_with-end
+part-decode_with-end c = search rules
 
-decode-with-requires : tie.Need-decode-with-requires
-decode-with-requires c κs = search rules
+decode_with-requires : tie.Need-decode_with-requires
+decode_with-requires c κs = search rules
 
-enum_told : tie.Need-enum-told
+enum_told : tie.Need-enum_told-1
 enum_told c = search rules
 
-more-line-requires : tie.Need-more-line-requires
-more-line-requires c κs = search rules
+more_line-requires : tie.Need-more_line-requires
+more_line-requires c κs = search rules
 
-enum-known-error : tie.Need-enum-known-error
-enum-known-error c = search rules
+enum_known-error : tie.Need-enum_known-error
+enum_known-error c = search rules
 
-refused-requires : tie.Need-refused-requires
+refused-requires : tie.Need-refused-outcome-requires
 refused-requires c κs = search rules
 
-refused-line-requires : tie.Need-refused-line-requires
-refused-line-requires c κs = search rules
+refused_line-requires : tie.Need-refused_line-requires
+refused_line-requires c κs = search rules
 
-enum-known-packet : tie.Need-enum-known-packet
-enum-known-packet c = search rules
+enum_known-packet : tie.Need-enum_known-packet
+enum_known-packet c = search rules
 
-packet-lines-requires : tie.Need-packet-lines-requires
-packet-lines-requires c κs = let start = c.before.before.before.before.before.before.before.before.before.before.before.before.before.before in
+packet_lines-requires : tie.Need-packet_lines-end-requires
+packet_lines-requires c κs = let start = c in
     let a = start.args in
-    let some = c.before.before.before.before.before.before.before.before.before.before.if1.false in
-    let found = c.before.before.before.packet.given in
-    let read = rw found.1 at c.before.before.before.before.before.before.before.decode-with.ensures in
-    let on = goes_on a.input.now a.offset a.at a.out.now some a.parts.now _ start.requires.4 found.0.0 found.0.1.0 read in
-    (omega (arith, on.1, on.2, start.requires), parts_held a.input.now a.offset a.at a.out.now some a.parts.now _ start.requires.4 found.0.0 found.0.1.0 read)
+    let some = c.if-input-offset.false in
+    let found = c.in-Read in
+    let read = rw found.is at c.decode_with.ensures in
+    let on = goes_on a.input.now a.offset a.at a.out.now some a.parts.now _ start.requires.4 found.packet found.consumed read in
+    (omega (arith, on.1, on.2, start.requires), parts_held a.input.now a.offset a.at a.out.now some a.parts.now _ start.requires.4 found.packet found.consumed read)
 
-add-t34 : tie.Need-overflow-add-t34
-add-t34 c = let start = c.before.before.before.before.before.before.before.before.before.before.before.before.before.before.before.before.before in
+add-t34 : tie.Need-overflow_add-result
+add-t34 c = let start = c in
     let a = start.args in
-    let some = c.before.before.before.before.before.before.before.before.before.before.before.before.before.if1.false in
-    let found = c.before.before.before.before.before.before.packet.given in
-    let read = rw found.1 at c.before.before.before.before.before.before.before.before.before.before.decode-with.ensures in
-    omega (arith, (goes_on a.input.now a.offset a.at a.out.now some a.parts.now _ start.requires.4 found.0.0 found.0.1.0 read).1)
+    let some = c.if-input-offset.false in
+    let found = c.in-Read in
+    let read = rw found.is at c.decode_with.ensures in
+    omega (arith, (goes_on a.input.now a.offset a.at a.out.now some a.parts.now _ start.requires.4 found.packet found.consumed read).1)
 
-same-length-2 : tie.Need-same-length-2
-same-length-2 c = search rules
+same_length-2 : tie.Need-shape_of-parts-in-More
+same_length-2 c = search rules
 
-same-length-3 : tie.Need-same-length-3
-same-length-3 c = search rules
+same_length-3 : tie.Need-shape_of-out-in-More
+same_length-3 c = search rules
 
-returns-2 : tie.Need-returns-2
-returns-2 c = let start = c.before.before.before.before.before.before.before.before.before.before.before.before.before.before.before in
+returns-2 : tie.Need-returns-in-More
+returns-2 c = let start = c in
     let a = start.args in
-    let some = c.before.before.before.before.before.before.before.before.before.before.before.if1.false in
-    let read = rw c.before.before.before.before.enum_told.given.1 at c.before.before.before.before.before.before.before.before.decode-with.ensures in
-    unfinished a.input.now a.offset a.at a.out.now some a.parts.now _ start.requires.4 read c.before.before.more-line.ensures
+    let some = c.if-input-offset.false in
+    let read = rw c.in-More.is at c.decode_with.ensures in
+    unfinished a.input.now a.offset a.at a.out.now some a.parts.now _ start.requires.4 read c.more_line.ensures
 
-same-length-4 : tie.Need-same-length-4
-same-length-4 c = search rules
+same_length-4 : tie.Need-shape_of-parts-in-Refused
+same_length-4 c = search rules
 
-same-length-5 : tie.Need-same-length-5
-same-length-5 c = search rules
+same_length-5 : tie.Need-shape_of-out-in-Refused
+same_length-5 c = search rules
 
-returns-3 : tie.Need-returns-3
-returns-3 c = let start = c.before.before.before.before.before.before.before.before.before.before.before.before.before.before.before.before.before in
+returns-3 : tie.Need-returns-in-Refused
+returns-3 c = let start = c in
     let a = start.args in
-    let some = c.before.before.before.before.before.before.before.before.before.before.before.before.before.if1.false in
-    let found = c.before.before.before.before.before.before.error.given in
-    let read = rw found.1 at c.before.before.before.before.before.before.before.before.before.before.decode-with.ensures in
-    refusal a.input.now a.offset a.at a.out.now some a.parts.now _ start.requires.4 found.0.0 read (ap (λ (o : Outcome). o.number) c.before.before.before.before.refused.ensures) c.before.before.refused-line.ensures
+    let some = c.if-input-offset.false in
+    let found = c.in-Refused in
+    let read = rw found.is at c.decode_with.ensures in
+    refusal a.input.now a.offset a.at a.out.now some a.parts.now _ start.requires.4 found.error read (ap (λ (o : Outcome). o.number) c.refused-outcome.ensures) c.refused_line.ensures
 
-same-length-6 : tie.Need-same-length-6
-same-length-6 c = search rules
+same_length-6 : tie.Need-shape_of-parts-in-Read
+same_length-6 c = search rules
 
-same-length-7 : tie.Need-same-length-7
-same-length-7 c = search rules
+same_length-7 : tie.Need-shape_of-out-in-Read
+same_length-7 c = search rules
 
-returns-4 : tie.Need-returns-4
-returns-4 c = let start = c.before.before.before.before.before.before.before.before.before.before.before.before.before.before.before.before.before in
+returns-4 : tie.Need-returns-in-Read
+returns-4 c = let start = c in
     let a = start.args in
-    let some = c.before.before.before.before.before.before.before.before.before.before.before.before.before.if1.false in
-    let found = c.before.before.before.before.before.before.packet.given in
-    let read = rw found.1 at c.before.before.before.before.before.before.before.before.before.before.decode-with.ensures in
-    let lines = c.before.before.packet-lines.ensures in
-    packet_listed a.input.now a.offset a.at a.out.now some a.parts.now _ start.requires.4 found.0.0 found.0.1.0 read start.requires.2 lines.0 lines.1
+    let some = c.if-input-offset.false in
+    let found = c.in-Read in
+    let read = rw found.is at c.decode_with.ensures in
+    let lines = c.packet_lines-end.ensures in
+    packet_listed a.input.now a.offset a.at a.out.now some a.parts.now _ start.requires.4 found.packet found.consumed read start.requires.2 lines.0 lines.1
 
 pub step_spec : {M : Type 1} → statement M
 step_spec =
     tie.close
     (tie.spec
-    end-line-requires
+    end_line-requires
     same_length
     returns
-    sub-decode-with
-    part-decode-with-start
-    part-decode-with-end
-    decode-with-requires
+    sub-decode_with
+    part-decode_with-start
+    part-decode_with-end
+    decode_with-requires
     enum_told
-    more-line-requires
-    enum-known-error
+    more_line-requires
+    enum_known-error
     refused-requires
-    refused-line-requires
-    enum-known-packet
-    packet-lines-requires
+    refused_line-requires
+    enum_known-packet
+    packet_lines-requires
     add-t34
-    same-length-2
-    same-length-3
+    same_length-2
+    same_length-3
     returns-2
-    same-length-4
-    same-length-5
+    same_length-4
+    same_length-5
     returns-3
-    same-length-6
-    same-length-7
+    same_length-6
+    same_length-7
     returns-4)

@@ -9,103 +9,103 @@ use Rattle.pack_links.proofs.WalkLaws.{SoFar, begin, end, look_asks, skip_go, us
 use Rattle.pack.proofs.link_all.Statement.{statement}
 use Rattle.pack.proofs.link_all.Tie as tie
 
-abbrev invariant-loop : tie.invariant-loop
+abbrev invariant-loop : tie.invariant-loop-i
 invariant-loop values₀ size sum₀ i₀ values sum i = (size ≡ entries_in values₀) × SoFar values₀ values sum i
 
-abbrev decreases-loop : tie.decreases-loop
+abbrev decreases-loop : tie.decreases-loop-i
 decreases-loop values₀ size sum₀ i₀ values sum i = size - i
 
-loop-holds : tie.Need-loop-init invariant-loop decreases-loop
-loop-holds c = (refl, begin _ c.before.requires)
+loop-holds : tie.Need-loop-i-init invariant-loop decreases-loop
+loop-holds c = (refl, begin _ c.requires)
 
 look-requires : tie.Need-look-requires invariant-loop decreases-loop
-look-requires c κs = look_asks _ _ _ _ c.before.before.loop.invariant.1 c.before.before.before.before.requires (rw c.before.before.loop.invariant.0 at c.before.loop-test.true)
+look-requires c κs = look_asks _ _ _ _ c.loop-i.invariant.1 c.requires (rw c.loop-i.invariant.0 at c.loop-i-test.true)
 
-enum_told : tie.Need-enum-told invariant-loop decreases-loop
+enum_told : tie.Need-enum_told-1 invariant-loop decreases-loop
 enum_told c = search rules
 
-add-i : tie.Need-overflow-add-i invariant-loop decreases-loop
+add-i : tie.Need-overflow_add-i invariant-loop decreases-loop
 add-i c = omega arith
 
-loop-less : tie.Need-loop-smaller invariant-loop decreases-loop
+loop-less : tie.Need-loop-i-smaller-in-Nowhere invariant-loop decreases-loop
 loop-less c = omega arith
 
-loop-again : tie.Need-loop-preserved invariant-loop decreases-loop
+loop-again : tie.Need-loop-i-preserved-in-Nowhere invariant-loop decreases-loop
 loop-again c =
-    let turn = c.before.before.before.before.before in
-    (turn.loop.invariant.0, skip_go _ _ _ _ turn.loop.invariant.1 c.before.before.before.before.before.before.before.requires (rw turn.loop.invariant.0 at c.before.before.before.before.loop-test.true) c.before.before.look.result c.before.before.look.ensures c.enum_told.given.1)
+    let turn = c in
+    (turn.loop-i.invariant.0, skip_go _ _ _ _ turn.loop-i.invariant.1 c.requires (rw turn.loop-i.invariant.0 at c.loop-i-test.true) c.look.result c.look.ensures c.in-Nowhere.is)
 
-enum-known-j : tie.Need-enum-known-j invariant-loop decreases-loop
-enum-known-j c = search rules
+enum_known-j : tie.Need-enum_known-j invariant-loop decreases-loop
+enum_known-j c = search rules
 
-mul-put-link : tie.Need-overflow-mul-put-link invariant-loop decreases-loop
-mul-put-link c = omega arith
+mul-put_link : tie.Need-overflow_mul-i invariant-loop decreases-loop
+mul-put_link c = omega arith
 
-add-put-link : tie.Need-overflow-add-put-link invariant-loop decreases-loop
-add-put-link c = omega arith
+add-put_link : tie.Need-overflow_add-i-in-Known invariant-loop decreases-loop
+add-put_link c = omega arith
 
-put-link-requires : tie.Need-put-link-requires invariant-loop decreases-loop
-put-link-requires c κs =
-    let turn = c.before.before.before.before.before.before.before in
-    let look = c.before.before.before.before.look in
-    used_asks _ _ _ _ turn.loop.invariant.1 c.before.before.before.before.before.before.before.before.before.requires (rw turn.loop.invariant.0 at c.before.before.before.before.before.before.loop-test.true) _ look.result look.ensures c.before.before.j.given.1
+put_link-requires : tie.Need-put_link-requires invariant-loop decreases-loop
+put_link-requires c κs =
+    let turn = c in
+    let look = c.look in
+    used_asks _ _ _ _ turn.loop-i.invariant.1 c.requires (rw turn.loop-i.invariant.0 at c.loop-i-test.true) _ look.result look.ensures c.in-Known.is
 
-add-i-2 : tie.Need-overflow-add-i-2 invariant-loop decreases-loop
+add-i-2 : tie.Need-overflow_add-i-in-Known-2 invariant-loop decreases-loop
 add-i-2 c = omega arith
 
-loop-less-2 : tie.Need-loop-smaller-2 invariant-loop decreases-loop
+loop-less-2 : tie.Need-loop-i-smaller-in-Known invariant-loop decreases-loop
 loop-less-2 c = omega arith
 
-loop-again-2 : tie.Need-loop-preserved-2 invariant-loop decreases-loop
+loop-again-2 : tie.Need-loop-i-preserved-in-Known invariant-loop decreases-loop
 loop-again-2 c =
-    let turn = c.before.before.before.before.before.before.before.before.before.before in
-    let look = c.before.before.before.before.before.before.before.look in
-    (turn.loop.invariant.0, used_go _ _ _ _ turn.loop.invariant.1 c.before.before.before.before.before.before.before.before.before.before.before.before.requires (rw turn.loop.invariant.0 at c.before.before.before.before.before.before.before.before.before.loop-test.true) _ look.result look.ensures c.before.before.before.before.before.j.given.1 _ c.before.before.put-link.ensures)
+    let turn = c in
+    let look = c.look in
+    (turn.loop-i.invariant.0, used_go _ _ _ _ turn.loop-i.invariant.1 c.requires (rw turn.loop-i.invariant.0 at c.loop-i-test.true) _ look.result look.ensures c.in-Known.is _ c.put_link.ensures)
 
-enum-known-s : tie.Need-enum-known-s invariant-loop decreases-loop
-enum-known-s c = search rules
+enum_known-s : tie.Need-enum_known-s invariant-loop decreases-loop
+enum_known-s c = search rules
 
-put-link-requires-2 : tie.Need-put-link-requires-2 invariant-loop decreases-loop
-put-link-requires-2 c κs =
-    let turn = c.before.before.before.before.before.before.before in
-    let look = c.before.before.before.before.look in
-    new_asks _ _ _ _ turn.loop.invariant.1 c.before.before.before.before.before.before.before.before.before.requires (rw turn.loop.invariant.0 at c.before.before.before.before.before.before.loop-test.true) _ look.result look.ensures c.before.before.s.given.1
+put_link-requires-2 : tie.Need-put_link-requires-in-Free invariant-loop decreases-loop
+put_link-requires-2 c κs =
+    let turn = c in
+    let look = c.look in
+    new_asks _ _ _ _ turn.loop-i.invariant.1 c.requires (rw turn.loop-i.invariant.0 at c.loop-i-test.true) _ look.result look.ensures c.in-Free.is
 
-mul-add-capped : tie.Need-overflow-mul-add-capped invariant-loop decreases-loop
-mul-add-capped c = omega arith
+mul-add_capped : tie.Need-overflow_mul-i-in-Free invariant-loop decreases-loop
+mul-add_capped c = omega arith
 
-add-add-capped : tie.Need-overflow-add-add-capped invariant-loop decreases-loop
-add-add-capped c = omega arith
+add-add_capped : tie.Need-overflow_add-i-in-Free invariant-loop decreases-loop
+add-add_capped c = omega arith
 
-mul-add-capped-2 : tie.Need-overflow-mul-add-capped-2 invariant-loop decreases-loop
-mul-add-capped-2 c = omega arith
+mul-add_capped-2 : tie.Need-offset_bounds-values-i invariant-loop decreases-loop
+mul-add_capped-2 c = omega arith
 
-slice-read-add-capped : tie.Need-slice-read-add-capped invariant-loop decreases-loop
-slice-read-add-capped c = omega (arith, c.before.before.before.put-link2.auto.0, c.before.before.before.before.before.before.before.before.before.before.before.loop.invariant.1.2.over.as_long)
+slice_read-add_capped : tie.Need-bounds-values-i invariant-loop decreases-loop
+slice_read-add_capped c = omega (arith, c.put_link-in-Free.auto.values, c.loop-i.invariant.1.2.over.as_long)
 
-add-capped-requires : tie.Need-add-capped-requires invariant-loop decreases-loop
-add-capped-requires c κs = search rules
+add_capped-requires : tie.Need-add_capped-sum-requires invariant-loop decreases-loop
+add_capped-requires c κs = search rules
 
-add-i-3 : tie.Need-overflow-add-i-3 invariant-loop decreases-loop
+add-i-3 : tie.Need-overflow_add-i-in-Free-2 invariant-loop decreases-loop
 add-i-3 c = omega arith
 
-loop-less-3 : tie.Need-loop-smaller-3 invariant-loop decreases-loop
+loop-less-3 : tie.Need-loop-i-smaller invariant-loop decreases-loop
 loop-less-3 c = omega arith
 
-loop-again-3 : tie.Need-loop-preserved-3 invariant-loop decreases-loop
+loop-again-3 : tie.Need-loop-i-preserved invariant-loop decreases-loop
 loop-again-3 c =
-    let turn = c.before.before.before.before.before.before.before.before.before.before.before.before in
-    let look = c.before.before.before.before.before.before.before.before.before.look in
-    (turn.loop.invariant.0, new_go _ _ _ _ turn.loop.invariant.1 c.before.before.before.before.before.before.before.before.before.before.before.before.before.before.requires (rw turn.loop.invariant.0 at c.before.before.before.before.before.before.before.before.before.before.before.loop-test.true) _ look.result look.ensures c.before.before.before.before.before.before.before.s.given.1 _ c.before.before.before.before.put-link2.ensures _ c.add-capped.ensures)
+    let turn = c in
+    let look = c.look in
+    (turn.loop-i.invariant.0, new_go _ _ _ _ turn.loop-i.invariant.1 c.requires (rw turn.loop-i.invariant.0 at c.loop-i-test.true) _ look.result look.ensures c.in-Free.is _ c.put_link-in-Free.ensures _ c.add_capped-sum.ensures)
 
-same_length : tie.Need-same-length invariant-loop decreases-loop
-same_length c = c.before.loop.invariant.1.2.over.as_long
+same_length : tie.Need-shape_of-values invariant-loop decreases-loop
+same_length c = c.loop-i.invariant.1.2.over.as_long
 
 returns : tie.Need-returns invariant-loop decreases-loop
-returns c = end _ _ _ _ c.before.loop.invariant.1 (rw c.before.loop.invariant.0 at c.loop-test.false)
+returns c = end _ _ _ _ c.loop-i.invariant.1 (rw c.loop-i.invariant.0 at c.loop-i-test.false)
 
-pub link-all-spec : {M : Type 1} → statement M
-link-all-spec =
+pub link_all_spec : {M : Type 1} → statement M
+link_all_spec =
     tie.close
     (tie.spec
     invariant-loop
@@ -116,20 +116,20 @@ link-all-spec =
     add-i
     loop-less
     loop-again
-    enum-known-j
-    mul-put-link
-    add-put-link
-    put-link-requires
+    enum_known-j
+    mul-put_link
+    add-put_link
+    put_link-requires
     add-i-2
     loop-less-2
     loop-again-2
-    enum-known-s
-    put-link-requires-2
-    mul-add-capped
-    add-add-capped
-    mul-add-capped-2
-    slice-read-add-capped
-    add-capped-requires
+    enum_known-s
+    put_link-requires-2
+    mul-add_capped
+    add-add_capped
+    mul-add_capped-2
+    slice_read-add_capped
+    add_capped-requires
     add-i-3
     loop-less-3
     loop-again-3

@@ -9,95 +9,95 @@ use Rattle.pack.proofs.look.Statement.{statement}
 use Rattle.pack.proofs.look.Tie as tie
 use Rattle.wire.specs.Layout.{entry_words}
 
-mul-is-stored : tie.Need-overflow-mul-is-stored
-mul-is-stored c = search rules
+mul-is_stored : tie.Need-overflow_mul-i
+mul-is_stored c = search rules
 
-add-is-stored : tie.Need-overflow-add-is-stored
-add-is-stored c = search rules
+add-is_stored : tie.Need-overflow_add-i
+add-is_stored c = search rules
 
-mul-is-stored-2 : tie.Need-overflow-mul-is-stored-2
-mul-is-stored-2 c = search rules
+mul-is_stored-2 : tie.Need-offset_bounds-values-i
+mul-is_stored-2 c = search rules
 
-shared-slice-read-is-stored : tie.Need-shared-slice-read-is-stored
-shared-slice-read-is-stored c = search rules
+shared_slice_read-is_stored : tie.Need-bounds-values-i
+shared_slice_read-is_stored c = search rules
 
-mul-is-stored-3 : tie.Need-overflow-mul-is-stored-3
-mul-is-stored-3 c = search rules
+mul-is_stored-3 : tie.Need-overflow_mul-i-2
+mul-is_stored-3 c = search rules
 
-add-is-stored-2 : tie.Need-overflow-add-is-stored-2
-add-is-stored-2 c = search rules
+add-is_stored-2 : tie.Need-overflow_add-i-2
+add-is_stored-2 c = search rules
 
-mul-is-stored-4 : tie.Need-overflow-mul-is-stored-4
-mul-is-stored-4 c = search rules
+mul-is_stored-4 : tie.Need-offset_bounds-values-i-2
+mul-is_stored-4 c = search rules
 
-shared-slice-read-is-stored-2 : tie.Need-shared-slice-read-is-stored-2
-shared-slice-read-is-stored-2 c = search rules
+shared_slice_read-is_stored-2 : tie.Need-bounds-values-i-2
+shared_slice_read-is_stored-2 c = search rules
 
-is-stored-requires : tie.Need-is-stored-requires
-is-stored-requires c κs = search rules
+is_stored-requires : tie.Need-is_stored-requires
+is_stored-requires c κs = search rules
 
-mul-bucket-word : tie.Need-overflow-mul-bucket-word
-mul-bucket-word c = search rules
+mul-bucket_word : tie.Need-overflow_mul-i-then-is_stored
+mul-bucket_word c = search rules
 
-add-bucket-word : tie.Need-overflow-add-bucket-word
-add-bucket-word c = search rules
+add-bucket_word : tie.Need-overflow_add-i-then-is_stored
+add-bucket_word c = search rules
 
-mul-bucket-word-2 : tie.Need-overflow-mul-bucket-word-2
-mul-bucket-word-2 c = search rules
+mul-bucket_word-2 : tie.Need-offset_bounds-values-i-then-is_stored
+mul-bucket_word-2 c = search rules
 
-shared-slice-read-bucket-word : tie.Need-shared-slice-read-bucket-word
-shared-slice-read-bucket-word c = search rules
+shared_slice_read-bucket_word : tie.Need-bounds-values-i-then-is_stored
+shared_slice_read-bucket_word c = search rules
 
-mul-bucket-word-3 : tie.Need-overflow-mul-bucket-word-3
-mul-bucket-word-3 c = search rules
+mul-bucket_word-3 : tie.Need-overflow_mul-i-then-is_stored-2
+mul-bucket_word-3 c = search rules
 
-add-bucket-word-2 : tie.Need-overflow-add-bucket-word-2
-add-bucket-word-2 c = search rules
+add-bucket_word-2 : tie.Need-overflow_add-i-then-is_stored-2
+add-bucket_word-2 c = search rules
 
-mul-bucket-word-4 : tie.Need-overflow-mul-bucket-word-4
-mul-bucket-word-4 c = search rules
+mul-bucket_word-4 : tie.Need-offset_bounds-values-i-then-is_stored-2
+mul-bucket_word-4 c = search rules
 
-shared-slice-read-bucket-word-2 : tie.Need-shared-slice-read-bucket-word-2
-shared-slice-read-bucket-word-2 c = search rules
+shared_slice_read-bucket_word-2 : tie.Need-bounds-values-i-then-is_stored-2
+shared_slice_read-bucket_word-2 c = search rules
 
-bucket-word-requires : tie.Need-bucket-word-requires
-bucket-word-requires c κs = search rules
+bucket_word-requires : tie.Need-bucket_word-head-requires
+bucket_word-requires c κs = search rules
 
 find-requires : tie.Need-find-requires
-find-requires c κs = let start = c.before.before.before.before.before.before.before.before in
+find-requires c κs = let start = c in
     let h = start.requires.0 in
     let n = length start.args.values.now in
-    (h, rw c.bucket-word.ensures (bucket_over _ _ _), rw c.bucket-word.ensures (omega (arith, h, bucket_within (get_or start.args.values.now (entry_words * start.args.i + 3) 0) (get_or start.args.values.now (entry_words * start.args.i + 4) 0) (n / entry_words) (omega (arith, h)))), start.requires.2)
+    (h, rw c.bucket_word-head.ensures (bucket_over _ _ _), rw c.bucket_word-head.ensures (omega (arith, h, bucket_within (get_or start.args.values.now (entry_words * start.args.i + 3) 0) (get_or start.args.values.now (entry_words * start.args.i + 4) 0) (n / entry_words) (omega (arith, h)))), start.requires.2)
 
-returns : tie.Need-returns
-returns c = let start = c.before.before.before.before.before.before.before.before.before in
-    looks start.args.values.now start.args.i _ c.find.result c.before.bucket-word.ensures (sym c.before.before.before.before.before.is-stored.ensures ∙ c.before.before.before.before.if1.true) c.find.ensures
+returns : tie.Need-returns-then-is_stored
+returns c = let start = c in
+    looks start.args.values.now start.args.i _ c.find.result c.bucket_word-head.ensures (sym c.is_stored.ensures ∙ c.if-is_stored.true) c.find.ensures
 
-returns-2 : tie.Need-returns-2
-returns-2 c = sym c.before.is-stored.ensures ∙ c.if1.false
+returns-2 : tie.Need-returns
+returns-2 c = sym c.is_stored.ensures ∙ c.if-is_stored.false
 
 pub look_spec : {M : Type 1} → statement M
 look_spec =
     tie.close
     (tie.spec
-    mul-is-stored
-    add-is-stored
-    mul-is-stored-2
-    shared-slice-read-is-stored
-    mul-is-stored-3
-    add-is-stored-2
-    mul-is-stored-4
-    shared-slice-read-is-stored-2
-    is-stored-requires
-    mul-bucket-word
-    add-bucket-word
-    mul-bucket-word-2
-    shared-slice-read-bucket-word
-    mul-bucket-word-3
-    add-bucket-word-2
-    mul-bucket-word-4
-    shared-slice-read-bucket-word-2
-    bucket-word-requires
+    mul-is_stored
+    add-is_stored
+    mul-is_stored-2
+    shared_slice_read-is_stored
+    mul-is_stored-3
+    add-is_stored-2
+    mul-is_stored-4
+    shared_slice_read-is_stored-2
+    is_stored-requires
+    mul-bucket_word
+    add-bucket_word
+    mul-bucket_word-2
+    shared_slice_read-bucket_word
+    mul-bucket_word-3
+    add-bucket_word-2
+    mul-bucket_word-4
+    shared_slice_read-bucket_word-2
+    bucket_word-requires
     find-requires
     returns
     returns-2)

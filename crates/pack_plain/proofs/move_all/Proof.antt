@@ -5,64 +5,64 @@ use Rattle.pack_plain.proofs.PlainLaws.{Placed, place_begin, place_end, place_in
 use Rattle.pack_plain.proofs.move_all.Statement.{statement}
 use Rattle.pack_plain.proofs.move_all.Tie as tie
 
-abbrev invariant-loop : tie.invariant-loop
+abbrev invariant-loop : tie.invariant-loop-i
 invariant-loop values₀ i₀ values i = Placed values₀ values i
 
-abbrev decreases-loop : tie.decreases-loop
+abbrev decreases-loop : tie.decreases-loop-i
 decreases-loop values₀ i₀ values i = i
 
-loop-holds : tie.Need-loop-init invariant-loop decreases-loop
-loop-holds c = place_begin _ c.before.requires.0
+loop-holds : tie.Need-loop-i-init invariant-loop decreases-loop
+loop-holds c = place_begin _ c.requires.0
 
-sub-i : tie.Need-overflow-sub-i invariant-loop decreases-loop
+sub-i : tie.Need-overflow_sub-i invariant-loop decreases-loop
 sub-i c = omega arith
 
-new-word-requires : tie.Need-new-word-requires invariant-loop decreases-loop
-new-word-requires c κs = (place_inside _ _ _ c.before.before.loop.invariant _ refl (omega arith), place_fits _ _ _ c.before.before.loop.invariant _ refl (omega arith) c.before.before.before.before.requires.1)
+new_word-requires : tie.Need-new_word-requires invariant-loop decreases-loop
+new_word-requires c κs = (place_inside _ _ _ c.loop-i.invariant _ refl (omega arith), place_fits _ _ _ c.loop-i.invariant _ refl (omega arith) c.requires.1)
 
-mul-values : tie.Need-overflow-mul-values invariant-loop decreases-loop
+mul-values : tie.Need-overflow_mul-values invariant-loop decreases-loop
 mul-values c =
-    let turn = c.before.before.before in
-    omega (arith, place_inside _ _ _ turn.loop.invariant _ refl (omega arith), c.before.before.before.before.before.well-formed, turn.loop.invariant.as_long)
+    let turn = c in
+    omega (arith, place_inside _ _ _ turn.loop-i.invariant _ refl (omega arith), c.well_formed, turn.loop-i.invariant.as_long)
 
-add-values : tie.Need-overflow-add-values invariant-loop decreases-loop
+add-values : tie.Need-overflow_add-values invariant-loop decreases-loop
 add-values c =
-    let turn = c.before.before.before in
-    omega (arith, place_inside _ _ _ turn.loop.invariant _ refl (omega arith), c.before.before.before.before.before.well-formed, turn.loop.invariant.as_long)
+    let turn = c in
+    omega (arith, place_inside _ _ _ turn.loop-i.invariant _ refl (omega arith), c.well_formed, turn.loop-i.invariant.as_long)
 
-mul-values-2 : tie.Need-overflow-mul-values-2 invariant-loop decreases-loop
+mul-values-2 : tie.Need-offset_bounds-values-i invariant-loop decreases-loop
 mul-values-2 c =
-    let turn = c.before.before.before in
-    omega (arith, place_inside _ _ _ turn.loop.invariant _ refl (omega arith), c.before.before.before.before.before.well-formed, turn.loop.invariant.as_long)
+    let turn = c in
+    omega (arith, place_inside _ _ _ turn.loop-i.invariant _ refl (omega arith), c.well_formed, turn.loop-i.invariant.as_long)
 
-slice-write-values : tie.Need-slice-write-values invariant-loop decreases-loop
-slice-write-values c = omega (arith, place_inside _ _ _ c.before.before.before.loop.invariant _ refl (omega arith))
+slice_write-values : tie.Need-bounds-values-i invariant-loop decreases-loop
+slice_write-values c = omega (arith, place_inside _ _ _ c.loop-i.invariant _ refl (omega arith))
 
-loop-less : tie.Need-loop-smaller invariant-loop decreases-loop
+loop-less : tie.Need-loop-i-smaller invariant-loop decreases-loop
 loop-less c = omega arith
 
-loop-again : tie.Need-loop-preserved invariant-loop decreases-loop
-loop-again c = place_go _ _ _ c.before.before.before.loop.invariant _ refl (omega arith) _ c.new_IsWord.ensures
+loop-again : tie.Need-loop-i-preserved invariant-loop decreases-loop
+loop-again c = place_go _ _ _ c.loop-i.invariant _ refl (omega arith) _ c.new_word.ensures
 
-same_length : tie.Need-same-length invariant-loop decreases-loop
-same_length c = c.before.loop.invariant.as_long
+same_length : tie.Need-shape_of-values invariant-loop decreases-loop
+same_length c = c.loop-i.invariant.as_long
 
 returns : tie.Need-returns invariant-loop decreases-loop
-returns c = place_end _ _ _ c.before.loop.invariant (omega arith)
+returns c = place_end _ _ _ c.loop-i.invariant (omega arith)
 
-pub move-all-spec : {M : Type 1} → statement M
-move-all-spec =
+pub move_all_spec : {M : Type 1} → statement M
+move_all_spec =
     tie.close
     (tie.spec
     invariant-loop
     decreases-loop
     loop-holds
     sub-i
-    new-word-requires
+    new_word-requires
     mul-values
     add-values
     mul-values-2
-    slice-write-values
+    slice_write-values
     loop-less
     loop-again
     same_length

@@ -6,67 +6,67 @@ use borrow.Author.Rules.{rules}
 use Rattle.pack_plain.proofs.pack_plain.Statement.{statement}
 use Rattle.pack_plain.proofs.pack_plain.Tie as tie
 
-returns : tie.Need-returns
+returns : tie.Need-returns-then-values-ne0
 returns c =
-    let start = c.before.before.before.before in
-    rule_1 start.args.area.now start.args.values.now start.args.out.now c.if1.true
+    let start = c in
+    rule_1 start.args.area.now start.args.values.now start.args.out.now c.if-values-ne0.true
 
-first-bad-requires : tie.Need-first-bad-requires
-first-bad-requires c κs = search rules
+first_bad-requires : tie.Need-first_bad-bad-requires
+first_bad-requires c κs = search rules
 
-same_length : tie.Need-same-length
+same_length : tie.Need-shape_of-values-then-bad-entries
 same_length c = search rules
 
-returns-2 : tie.Need-returns-2
+returns-2 : tie.Need-returns-then-bad-entries
 returns-2 c =
-    let start = c.before.before.before.before.before.before.before in
-    rule_3 start.args.area.now start.args.values.now start.args.out.now c.before.before.before.if1.false _ c.before.first-bad.ensures c.if2.true
+    let start = c in
+    rule_3 start.args.area.now start.args.values.now start.args.out.now c.if-values-ne0.false _ c.first_bad-bad.ensures c.if-bad-entries.true
 
-room-before-requires : tie.Need-room-before-requires
-room-before-requires c κs = search rules
+room_before-requires : tie.Need-room_before-sum-requires
+room_before-requires c κs = search rules
 
-same-length-2 : tie.Need-same-length-2
-same-length-2 c = search rules
+same_length-2 : tie.Need-shape_of-values-then-out-sum
+same_length-2 c = search rules
 
-returns-3 : tie.Need-returns-3
+returns-3 : tie.Need-returns-then-out-sum
 returns-3 c =
-    let start = c.before.before.before.before.before.before.before.before.before.before in
-    short start.args.area.now start.args.values.now start.args.out.now c.before.before.before.before.before.before.if1.false _ c.before.before.before.before.first-bad.ensures c.before.before.before.if2.false _ c.before.room-before.ensures c.if3.true
+    let start = c in
+    short start.args.area.now start.args.values.now start.args.out.now c.if-values-ne0.false _ c.first_bad-bad.ensures c.if-bad-entries.false _ c.room_before-sum.ensures c.if-out-sum.true
 
-copy-all-requires : tie.Need-copy-all-requires
-copy-all-requires c κs =
-    let start = c.before.before.before.before.before.before.before.before.before.before.before.before in
-    copy_requires start.args.area.now start.args.values.now start.args.out.now c.before.before.before.before.before.before.before.before.if1.false _ c.before.before.before.before.before.before.first-bad.ensures c.before.before.before.before.before.if2.false _ c.before.before.before.room-before.ensures c.before.before.if3.false (omega (arith, start.well-formed))
+copy_all-requires : tie.Need-copy_all-requires
+copy_all-requires c κs =
+    let start = c in
+    copy_requires start.args.area.now start.args.values.now start.args.out.now c.if-values-ne0.false _ c.first_bad-bad.ensures c.if-bad-entries.false _ c.room_before-sum.ensures c.if-out-sum.false (omega (arith, start.well_formed))
 
-move-all-requires : tie.Need-move-all-requires
-move-all-requires c κs =
-    let start = c.before.before.before.before.before.before.before.before.before.before.before.before.before.before.before.before in
-    move_requires start.args.area.now start.args.values.now start.args.out.now c.before.before.before.before.before.before.before.before.before.before.before.before.if1.false _ c.before.before.before.before.before.before.before.before.before.before.first-bad.ensures c.before.before.before.before.before.before.before.before.before.if2.false _ c.before.before.before.before.before.before.before.room-before.ensures c.before.before.before.before.before.before.if3.false (omega (arith, start.well-formed))
+move_all-requires : tie.Need-move_all-requires
+move_all-requires c κs =
+    let start = c in
+    move_requires start.args.area.now start.args.values.now start.args.out.now c.if-values-ne0.false _ c.first_bad-bad.ensures c.if-bad-entries.false _ c.room_before-sum.ensures c.if-out-sum.false (omega (arith, start.well_formed))
 
-same-length-3 : tie.Need-same-length-3
-same-length-3 c = search rules
+same_length-3 : tie.Need-shape_of-values
+same_length-3 c = search rules
 
-same-length-4 : tie.Need-same-length-4
-same-length-4 c = search rules
+same_length-4 : tie.Need-shape_of-out
+same_length-4 c = search rules
 
-returns-4 : tie.Need-returns-4
+returns-4 : tie.Need-returns
 returns-4 c =
-    let start = c.before.before.before.before.before.before.before.before.before.before.before.before.before.before.before.before.before.before.before in
-    filled start.args.area.now start.args.values.now start.args.out.now c.before.before.before.before.before.before.before.before.before.before.before.before.before.before.before.if1.false _ c.before.before.before.before.before.before.before.before.before.before.before.before.before.first-bad.ensures c.before.before.before.before.before.before.before.before.before.before.before.before.if2.false _ c.before.before.before.before.before.before.before.before.before.before.room-before.ensures c.before.before.before.before.before.before.before.before.before.if3.false (omega (arith, start.well-formed)) _ _ c.before.before.move_all.ensures c.before.before.before.before.before.before.copy-all.ensures
+    let start = c in
+    filled start.args.area.now start.args.values.now start.args.out.now c.if-values-ne0.false _ c.first_bad-bad.ensures c.if-bad-entries.false _ c.room_before-sum.ensures c.if-out-sum.false (omega (arith, start.well_formed)) _ _ c.move_all.ensures c.copy_all.ensures
 
-pub pack-plain-spec : {M : Type 1} → statement M
-pack-plain-spec =
+pub pack_plain_spec : {M : Type 1} → statement M
+pack_plain_spec =
     tie.close
     (tie.spec
     returns
-    first-bad-requires
+    first_bad-requires
     same_length
     returns-2
-    room-before-requires
-    same-length-2
+    room_before-requires
+    same_length-2
     returns-3
-    copy-all-requires
-    move-all-requires
-    same-length-3
-    same-length-4
+    copy_all-requires
+    move_all-requires
+    same_length-3
+    same_length-4
     returns-4)

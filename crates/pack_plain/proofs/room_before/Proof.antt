@@ -9,42 +9,42 @@ use Rattle.pack_plain.proofs.PlainLaws.{sum_begin, sum_more, sum_end}
 use Rattle.pack_plain.proofs.room_before.Statement.{statement}
 use Rattle.pack_plain.proofs.room_before.Tie as tie
 
-abbrev invariant-loop : tie.invariant-loop
+abbrev invariant-loop : tie.invariant-loop-i
 invariant-loop values n sum₀ i₀ sum i = (i ≤ n) × (sum ≡ capped (room values i))
 
-abbrev decreases-loop : tie.decreases-loop
+abbrev decreases-loop : tie.decreases-loop-i
 decreases-loop values n sum₀ i₀ sum i = n - i
 
-loop-holds : tie.Need-loop-init invariant-loop decreases-loop
+loop-holds : tie.Need-loop-i-init invariant-loop decreases-loop
 loop-holds c = (omega arith, sum_begin _)
 
-room-of-requires : tie.Need-room-of-requires invariant-loop decreases-loop
-room-of-requires c κs = omega arith
+room_of-requires : tie.Need-room_of-requires invariant-loop decreases-loop
+room_of-requires c κs = omega arith
 
-add-capped-requires : tie.Need-add-capped-requires invariant-loop decreases-loop
-add-capped-requires c κs = search rules
+add_capped-requires : tie.Need-add_capped-sum-requires invariant-loop decreases-loop
+add_capped-requires c κs = search rules
 
-add-i : tie.Need-overflow-add-i invariant-loop decreases-loop
+add-i : tie.Need-overflow_add-i invariant-loop decreases-loop
 add-i c = omega arith
 
-loop-less : tie.Need-loop-smaller invariant-loop decreases-loop
+loop-less : tie.Need-loop-i-smaller invariant-loop decreases-loop
 loop-less c = omega arith
 
-loop-again : tie.Need-loop-preserved invariant-loop decreases-loop
-loop-again c = (omega arith, sum_more _ _ _ _ c.before.before.before.loop.invariant.1 c.before.room_of.ensures _ c.add-capped.ensures)
+loop-again : tie.Need-loop-i-preserved invariant-loop decreases-loop
+loop-again c = (omega arith, sum_more _ _ _ _ c.loop-i.invariant.1 c.room_of.ensures _ c.add_capped-sum.ensures)
 
 returns : tie.Need-returns invariant-loop decreases-loop
-returns c = sum_end _ _ _ _ c.before.loop.invariant.1 (omega arith) (omega arith)
+returns c = sum_end _ _ _ _ c.loop-i.invariant.1 (omega arith) (omega arith)
 
-pub room-before-spec : {M : Type 1} → statement M
-room-before-spec =
+pub room_before_spec : {M : Type 1} → statement M
+room_before_spec =
     tie.close
     (tie.spec
     invariant-loop
     decreases-loop
     loop-holds
-    room-of-requires
-    add-capped-requires
+    room_of-requires
+    add_capped-requires
     add-i
     loop-less
     loop-again

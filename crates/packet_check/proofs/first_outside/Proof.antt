@@ -15,78 +15,78 @@ use Rattle.packet_check.proofs.first_outside.Tie as tie
 abbrev test : ℕ → List ℕ → ℕ → Bool
 test given parts i = is_outside given (offset_at parts i) (size_at parts i)
 
-abbrev invariant-loop : tie.invariant-loop
+abbrev invariant-loop : tie.invariant-loop-index
 invariant-loop given parts count index₀ index = (count ≡ room parts) × (index ≤ room parts) × (first_from (test given parts) index (room parts - index) ≡ first (test given parts) (room parts))
 
-abbrev decreases-loop : tie.decreases-loop
+abbrev decreases-loop : tie.decreases-loop-index
 decreases-loop given parts count index₀ index = count - index
 
-loop-holds : tie.Need-loop-init invariant-loop decreases-loop
-loop-holds c = (search rules, search rules, search_starts (test c.before.args.given c.before.args.parts.now) (room c.before.args.parts.now))
+loop-holds : tie.Need-loop-index-init invariant-loop decreases-loop
+loop-holds c = (search rules, search rules, search_starts (test c.args.given c.args.parts.now) (room c.args.parts.now))
 
-mul-is-outside : tie.Need-overflow-mul-is-outside invariant-loop decreases-loop
-mul-is-outside c = search rules
+mul-is_outside : tie.Need-overflow_mul-index invariant-loop decreases-loop
+mul-is_outside c = search rules
 
-mul-is-outside-2 : tie.Need-overflow-mul-is-outside-2 invariant-loop decreases-loop
-mul-is-outside-2 c = search rules
+mul-is_outside-2 : tie.Need-offset_bounds-parts-index invariant-loop decreases-loop
+mul-is_outside-2 c = search rules
 
-shared-slice-read-is-outside : tie.Need-shared-slice-read-is-outside invariant-loop decreases-loop
-shared-slice-read-is-outside c = search rules
+shared_slice_read-is_outside : tie.Need-bounds-parts-index invariant-loop decreases-loop
+shared_slice_read-is_outside c = search rules
 
-mul-is-outside-3 : tie.Need-overflow-mul-is-outside-3 invariant-loop decreases-loop
-mul-is-outside-3 c = search rules
+mul-is_outside-3 : tie.Need-overflow_mul-index-in-loop-index invariant-loop decreases-loop
+mul-is_outside-3 c = search rules
 
-add-is-outside : tie.Need-overflow-add-is-outside invariant-loop decreases-loop
-add-is-outside c = search rules
+add-is_outside : tie.Need-overflow_add-index invariant-loop decreases-loop
+add-is_outside c = search rules
 
-mul-is-outside-4 : tie.Need-overflow-mul-is-outside-4 invariant-loop decreases-loop
-mul-is-outside-4 c = search rules
+mul-is_outside-4 : tie.Need-offset_bounds-parts-index-in-loop-index invariant-loop decreases-loop
+mul-is_outside-4 c = search rules
 
-shared-slice-read-is-outside-2 : tie.Need-shared-slice-read-is-outside-2 invariant-loop decreases-loop
-shared-slice-read-is-outside-2 c = search rules
+shared_slice_read-is_outside-2 : tie.Need-bounds-parts-index-in-loop-index invariant-loop decreases-loop
+shared_slice_read-is_outside-2 c = search rules
 
-is-outside-requires : tie.Need-is-outside-requires invariant-loop decreases-loop
-is-outside-requires c κs = search rules
+is_outside-requires : tie.Need-is_outside-requires invariant-loop decreases-loop
+is_outside-requires c κs = search rules
 
-returns : tie.Need-returns invariant-loop decreases-loop
+returns : tie.Need-returns-then-is_outside invariant-loop decreases-loop
 returns c =
-    let start = c.before.before.before.before.before.before.before.args in
-    let at = c.before.before.before.before.before.loop in
-    search_hits (test start.given start.parts.now) (room start.parts.now) at.index at.invariant.2 (search rules) (sym c.before.is-outside.ensures ∙ c.if1.true)
+    let start = c.args in
+    let at = c.loop-index in
+    search_hits (test start.given start.parts.now) (room start.parts.now) at.index at.invariant.2 (search rules) (sym c.is_outside.ensures ∙ c.if-is_outside.true)
 
-add-index : tie.Need-overflow-add-index invariant-loop decreases-loop
+add-index : tie.Need-overflow_add-index-in-loop-index invariant-loop decreases-loop
 add-index c = search rules
 
-loop-less : tie.Need-loop-smaller invariant-loop decreases-loop
+loop-less : tie.Need-loop-index-smaller invariant-loop decreases-loop
 loop-less c = search rules
 
-loop-again : tie.Need-loop-preserved invariant-loop decreases-loop
+loop-again : tie.Need-loop-index-preserved invariant-loop decreases-loop
 loop-again c =
-    let start = c.before.before.before.before.before.before.before.args in
-    let at = c.before.before.before.before.before.loop in
-    (search rules, search rules, search_on (test start.given start.parts.now) (room start.parts.now) at.index at.invariant.2 (search rules) (sym c.before.is-outside.ensures ∙ c.if1.false))
+    let start = c.args in
+    let at = c.loop-index in
+    (search rules, search rules, search_on (test start.given start.parts.now) (room start.parts.now) at.index at.invariant.2 (search rules) (sym c.is_outside.ensures ∙ c.if-is_outside.false))
 
-returns-2 : tie.Need-returns-2 invariant-loop decreases-loop
+returns-2 : tie.Need-returns invariant-loop decreases-loop
 returns-2 c =
-    let start = c.before.before.before.args in
-    let at = c.before.loop in
+    let start = c.args in
+    let at = c.loop-index in
     search_ends (test start.given start.parts.now) (room start.parts.now) at.index at.invariant.2 (search rules) (search rules)
 
-pub first-outside-spec : {M : Type 1} → statement M
-first-outside-spec =
+pub first_outside_spec : {M : Type 1} → statement M
+first_outside_spec =
     tie.close
     (tie.spec
     invariant-loop
     decreases-loop
     loop-holds
-    mul-is-outside
-    mul-is-outside-2
-    shared-slice-read-is-outside
-    mul-is-outside-3
-    add-is-outside
-    mul-is-outside-4
-    shared-slice-read-is-outside-2
-    is-outside-requires
+    mul-is_outside
+    mul-is_outside-2
+    shared_slice_read-is_outside
+    mul-is_outside-3
+    add-is_outside
+    mul-is_outside-4
+    shared_slice_read-is_outside-2
+    is_outside-requires
     returns
     add-index
     loop-less

@@ -10,78 +10,78 @@ use Rattle.packet_check.proofs.SearchLaws.{search_starts, search_on, search_hits
 use Rattle.packet_check.proofs.first_too_large.Statement.{statement}
 use Rattle.packet_check.proofs.first_too_large.Tie as tie
 
-abbrev invariant-loop : tie.invariant-loop
+abbrev invariant-loop : tie.invariant-loop-index
 invariant-loop parts count index₀ index = (count ≡ room parts) × (index ≤ room parts) × (first_from (too_large_at parts) index (room parts - index) ≡ first (too_large_at parts) (room parts))
 
-abbrev decreases-loop : tie.decreases-loop
+abbrev decreases-loop : tie.decreases-loop-index
 decreases-loop parts count index₀ index = count - index
 
-loop-holds : tie.Need-loop-init invariant-loop decreases-loop
-loop-holds c = (search rules, search rules, search_starts (too_large_at c.before.args.parts.now) (room c.before.args.parts.now))
+loop-holds : tie.Need-loop-index-init invariant-loop decreases-loop
+loop-holds c = (search rules, search rules, search_starts (too_large_at c.args.parts.now) (room c.args.parts.now))
 
-mul-is-too-large : tie.Need-overflow-mul-is-too-large invariant-loop decreases-loop
-mul-is-too-large c = search rules
+mul-is_too_large : tie.Need-overflow_mul-index invariant-loop decreases-loop
+mul-is_too_large c = search rules
 
-mul-is-too-large-2 : tie.Need-overflow-mul-is-too-large-2 invariant-loop decreases-loop
-mul-is-too-large-2 c = search rules
+mul-is_too_large-2 : tie.Need-offset_bounds-parts-index invariant-loop decreases-loop
+mul-is_too_large-2 c = search rules
 
-shared-slice-read-is-too-large : tie.Need-shared-slice-read-is-too-large invariant-loop decreases-loop
-shared-slice-read-is-too-large c = search rules
+shared_slice_read-is_too_large : tie.Need-bounds-parts-index invariant-loop decreases-loop
+shared_slice_read-is_too_large c = search rules
 
-mul-is-too-large-3 : tie.Need-overflow-mul-is-too-large-3 invariant-loop decreases-loop
-mul-is-too-large-3 c = search rules
+mul-is_too_large-3 : tie.Need-overflow_mul-index-in-loop-index invariant-loop decreases-loop
+mul-is_too_large-3 c = search rules
 
-add-is-too-large : tie.Need-overflow-add-is-too-large invariant-loop decreases-loop
-add-is-too-large c = search rules
+add-is_too_large : tie.Need-overflow_add-index invariant-loop decreases-loop
+add-is_too_large c = search rules
 
-mul-is-too-large-4 : tie.Need-overflow-mul-is-too-large-4 invariant-loop decreases-loop
-mul-is-too-large-4 c = search rules
+mul-is_too_large-4 : tie.Need-offset_bounds-parts-index-in-loop-index invariant-loop decreases-loop
+mul-is_too_large-4 c = search rules
 
-shared-slice-read-is-too-large-2 : tie.Need-shared-slice-read-is-too-large-2 invariant-loop decreases-loop
-shared-slice-read-is-too-large-2 c = search rules
+shared_slice_read-is_too_large-2 : tie.Need-bounds-parts-index-in-loop-index invariant-loop decreases-loop
+shared_slice_read-is_too_large-2 c = search rules
 
-is-too-large-requires : tie.Need-is-too-large-requires invariant-loop decreases-loop
-is-too-large-requires c κs = search rules
+is_too_large-requires : tie.Need-is_too_large-requires invariant-loop decreases-loop
+is_too_large-requires c κs = search rules
 
-returns : tie.Need-returns invariant-loop decreases-loop
+returns : tie.Need-returns-then-is_too_large invariant-loop decreases-loop
 returns c =
-    let start = c.before.before.before.before.before.before.before.args in
-    let at = c.before.before.before.before.before.loop in
-    search_hits (too_large_at start.parts.now) (room start.parts.now) at.index at.invariant.2 (search rules) (sym c.before.is-too-large.ensures ∙ c.if1.true)
+    let start = c.args in
+    let at = c.loop-index in
+    search_hits (too_large_at start.parts.now) (room start.parts.now) at.index at.invariant.2 (search rules) (sym c.is_too_large.ensures ∙ c.if-is_too_large.true)
 
-add-index : tie.Need-overflow-add-index invariant-loop decreases-loop
+add-index : tie.Need-overflow_add-index-in-loop-index invariant-loop decreases-loop
 add-index c = search rules
 
-loop-less : tie.Need-loop-smaller invariant-loop decreases-loop
+loop-less : tie.Need-loop-index-smaller invariant-loop decreases-loop
 loop-less c = search rules
 
-loop-again : tie.Need-loop-preserved invariant-loop decreases-loop
+loop-again : tie.Need-loop-index-preserved invariant-loop decreases-loop
 loop-again c =
-    let start = c.before.before.before.before.before.before.before.args in
-    let at = c.before.before.before.before.before.loop in
-    (search rules, search rules, search_on (too_large_at start.parts.now) (room start.parts.now) at.index at.invariant.2 (search rules) (sym c.before.is-too-large.ensures ∙ c.if1.false))
+    let start = c.args in
+    let at = c.loop-index in
+    (search rules, search rules, search_on (too_large_at start.parts.now) (room start.parts.now) at.index at.invariant.2 (search rules) (sym c.is_too_large.ensures ∙ c.if-is_too_large.false))
 
-returns-2 : tie.Need-returns-2 invariant-loop decreases-loop
+returns-2 : tie.Need-returns invariant-loop decreases-loop
 returns-2 c =
-    let start = c.before.before.before.args in
-    let at = c.before.loop in
+    let start = c.args in
+    let at = c.loop-index in
     search_ends (too_large_at start.parts.now) (room start.parts.now) at.index at.invariant.2 (search rules) (search rules)
 
-pub first-too-large-spec : {M : Type 1} → statement M
-first-too-large-spec =
+pub first_too_large_spec : {M : Type 1} → statement M
+first_too_large_spec =
     tie.close
     (tie.spec
     invariant-loop
     decreases-loop
     loop-holds
-    mul-is-too-large
-    mul-is-too-large-2
-    shared-slice-read-is-too-large
-    mul-is-too-large-3
-    add-is-too-large
-    mul-is-too-large-4
-    shared-slice-read-is-too-large-2
-    is-too-large-requires
+    mul-is_too_large
+    mul-is_too_large-2
+    shared_slice_read-is_too_large
+    mul-is_too_large-3
+    add-is_too_large
+    mul-is_too_large-4
+    shared_slice_read-is_too_large-2
+    is_too_large-requires
     returns
     add-index
     loop-less

@@ -4,17 +4,17 @@ use borrow.Author.Rules.{rules}
 use Rattle.packet_check.proofs.is_too_large.Statement.{statement}
 use Rattle.packet_check.proofs.is_too_large.Tie as tie
 
-is-null-requires : tie.Need-is-null-requires
-is-null-requires c κs = search rules
+is_null-requires : tie.Need-is_null-requires
+is_null-requires c κs = search rules
 
-cast-result : tie.Need-overflow-cast-result
+cast-result : tie.Need-overflow_cast-result
 cast-result c = search rules
 
-returns : tie.Need-returns
-returns c = rw (sym c.before.is-null.ensures ∙ c.if1.true)
+returns : tie.Need-returns-then-is_null
+returns c = rw (sym c.is_null.ensures ∙ c.if-is_null.true)
 
-returns-2 : tie.Need-returns-2
-returns-2 c = rw (sym c.before.is-null.ensures ∙ c.if1.false)
+returns-2 : tie.Need-returns-else-is_null
+returns-2 c = rw (sym c.is_null.ensures ∙ c.if-is_null.false)
 
-pub is-too-large-spec : {M : Type 1} → statement M
-is-too-large-spec = tie.close (tie.spec is-null-requires cast-result returns returns-2)
+pub is_too_large_spec : {M : Type 1} → statement M
+is_too_large_spec = tie.close (tie.spec is_null-requires cast-result returns returns-2)

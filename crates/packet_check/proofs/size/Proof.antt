@@ -4,32 +4,32 @@ use borrow.Author.Rules.{rules}
 use Rattle.packet_check.proofs.size.Statement.{statement}
 use Rattle.packet_check.proofs.size.Tie as tie
 
-has-variable-header-requires : tie.Need-has-variable-header-requires
-has-variable-header-requires c κs = search rules
+has_variable_header-requires : tie.Need-has_variable_header-requires
+has_variable_header-requires c κs = search rules
 
-mul-result : tie.Need-overflow-mul-result
+mul-result : tie.Need-overflow_mul-result
 mul-result c = search rules
 
-add-result : tie.Need-overflow-add-result
+add-result : tie.Need-overflow_add-result
 add-result c = search rules
 
 payload-requires : tie.Need-payload-requires
 payload-requires c κs = search rules
 
-add-result-2 : tie.Need-overflow-add-result-2
+add-result-2 : tie.Need-overflow_add-result-then-has_variable_header
 add-result-2 c = search rules
 
-returns : tie.Need-returns
-returns c = rw (sym c.before.before.has-variable-header.ensures ∙ c.before.if1.true, c.payload.ensures.0)
+returns : tie.Need-returns-then-has_variable_header
+returns c = rw (sym c.has_variable_header.ensures ∙ c.if-has_variable_header.true, c.payload.ensures.0)
 
-returns-2 : tie.Need-returns-2
-returns-2 c = rw (sym c.before.has-variable-header.ensures ∙ c.if1.false)
+returns-2 : tie.Need-returns-else-has_variable_header
+returns-2 c = rw (sym c.has_variable_header.ensures ∙ c.if-has_variable_header.false)
 
-pub size-spec : {M : Type 1} → statement M
-size-spec =
+pub size_spec : {M : Type 1} → statement M
+size_spec =
     tie.close
     (tie.spec
-    has-variable-header-requires
+    has_variable_header-requires
     mul-result
     add-result
     payload-requires

@@ -4,14 +4,14 @@ use borrow.Author.Rules.{rules}
 use Rattle.packet_check.proofs.taken_by.Statement.{statement}
 use Rattle.packet_check.proofs.taken_by.Tie as tie
 
-is-null-requires : tie.Need-is-null-requires
-is-null-requires c κs = search rules
+is_null-requires : tie.Need-is_null-requires
+is_null-requires c κs = search rules
 
-returns : tie.Need-returns
-returns c = rw (sym c.before.is-null.ensures ∙ c.if1.true)
+returns : tie.Need-returns-then-is_null
+returns c = rw (sym c.is_null.ensures ∙ c.if-is_null.true)
 
-returns-2 : tie.Need-returns-2
-returns-2 c = rw (sym c.before.is-null.ensures ∙ c.if1.false)
+returns-2 : tie.Need-returns-else-is_null
+returns-2 c = rw (sym c.is_null.ensures ∙ c.if-is_null.false)
 
-pub taken-by-spec : {M : Type 1} → statement M
-taken-by-spec = tie.close (tie.spec is-null-requires returns returns-2)
+pub taken_by_spec : {M : Type 1} → statement M
+taken_by_spec = tie.close (tie.spec is_null-requires returns returns-2)

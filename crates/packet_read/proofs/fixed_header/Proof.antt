@@ -67,7 +67,7 @@ header-requires : tie.Need-header-requires
 header-requires c κs =
     let found = c in
     let typed = found in
-    let known = rw found.before.before.before.before.before.in-Known.packet_type.given.1 at typed.type_of.ensures in
+    let known = rw found.in-Known.is at typed.type_of.ensures in
     known ∙ typed.read_u16-raw.ensures
 
 returns-4 : tie.Need-returns-in-Unknown
@@ -85,9 +85,9 @@ returns-5 c rest =
     let retired = sum in
     let found = retired in
     let typed = found in
-    let known = rw found.before.before.before.before.before.in-Known.packet_type.given.1 at typed.type_of.ensures in
+    let known = rw found.in-Known.is at typed.type_of.ensures in
     let signed = typed in
-    fixed_fails _ _ rest _ signed.if-input-lt-FIXED_HEADER_SIZE.false signed.read_u32.ensures _ typed.if-signature-ne-SIGNATURE.false typed.read_u16-raw.ensures (rw known at (type_known found.packet_type.given.0.0)) _ (rw known at retired.is_retired.ensures) _ sum.if-is_retired.false sum.read_u64.ensures _ told.0 told.1
+    fixed_fails _ _ rest _ signed.if-input-lt-FIXED_HEADER_SIZE.false signed.read_u32-signature.ensures _ typed.if-signature-ne-SIGNATURE.false typed.read_u16-raw.ensures (rw known at (type_known found.in-Known.packet_type)) _ (rw known at retired.is_retired.ensures) _ sum.if-is_retired.false sum.read_u64-expected.ensures _ told.0 told.1
 
 returns-6 : tie.Need-returns-in-Passed
 returns-6 c =
@@ -97,9 +97,9 @@ returns-6 c =
     let retired = sum in
     let found = retired in
     let typed = found in
-    let known = rw found.header.new.packet_type.given.1 at typed.type_of.ensures in
+    let known = rw found.in-Known.is at typed.type_of.ensures in
     let signed = typed in
-    ((λ rest. fixed_passes _ _ rest _ signed.if-input-lt-FIXED_HEADER_SIZE.false signed.read_u32.ensures _ typed.if-signature-ne-SIGNATURE.false typed.read_u16-raw.ensures (rw known at (type_known found.packet_type.given.0.0)) _ (rw known at retired.is_retired.ensures) _ sum.if-is_retired.false sum.read_u64.ensures told), signed.if-input-lt-FIXED_HEADER_SIZE.false, c.header.ensures)
+    ((λ rest. fixed_passes _ _ rest _ signed.if-input-lt-FIXED_HEADER_SIZE.false signed.read_u32-signature.ensures _ typed.if-signature-ne-SIGNATURE.false typed.read_u16-raw.ensures (rw known at (type_known found.in-Known.packet_type)) _ (rw known at retired.is_retired.ensures) _ sum.if-is_retired.false sum.read_u64-expected.ensures told), signed.if-input-lt-FIXED_HEADER_SIZE.false, c.header.ensures)
 
 pub fixed_header_spec : {M : Type 1} → statement M
 fixed_header_spec =

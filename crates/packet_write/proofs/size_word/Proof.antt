@@ -6,20 +6,20 @@ use borrow.Author.Rules.{rules}
 use Rattle.packet_write.proofs.size_word.Statement.{statement}
 use Rattle.packet_write.proofs.size_word.Tie as tie
 
-is-null-requires : tie.Need-is-null-requires
-is-null-requires c κs = search rules
+is_null-requires : tie.Need-is_null-requires
+is_null-requires c κs = search rules
 
-returns : tie.Need-returns
-returns c = rw (sym c.before.is-null.ensures ∙ c.if1.true)
+returns : tie.Need-returns-then-is_null
+returns c = rw (sym c.is_null.ensures ∙ c.if-is_null.true)
 
-cast-result : tie.Need-overflow-cast-result
+cast-result : tie.Need-overflow_cast-result
 cast-result c =
-    let start = c.before.before in
+    let start = c in
     let small = taken_most start.args.offset start.args.length start.requires in
-    omega (arith, rw (sym c.before.is-null.ensures ∙ c.if1.false) at small)
+    omega (arith, rw (sym c.is_null.ensures ∙ c.if-is_null.false) at small)
 
-returns-2 : tie.Need-returns-2
-returns-2 c = rw (sym c.before.is-null.ensures ∙ c.if1.false)
+returns-2 : tie.Need-returns
+returns-2 c = rw (sym c.is_null.ensures ∙ c.if-is_null.false)
 
-pub size-word-spec : {M : Type 1} → statement M
-size-word-spec = tie.close (tie.spec is-null-requires returns cast-result returns-2)
+pub size_word_spec : {M : Type 1} → statement M
+size_word_spec = tie.close (tie.spec is_null-requires returns cast-result returns-2)

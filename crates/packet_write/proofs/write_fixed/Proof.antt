@@ -8,23 +8,23 @@ use borrow.Author.Rules.{rules}
 use Rattle.packet_write.proofs.write_fixed.Statement.{statement}
 use Rattle.packet_write.proofs.write_fixed.Tie as tie
 
-write-fields-requires : tie.Need-write-fields-requires
-write-fields-requires c κs = search rules
+write_fields-requires : tie.Need-write_fields-requires
+write_fields-requires c κs = search rules
 
 seal-requires : tie.Need-seal-requires
 seal-requires c κs = search rules
 
-same_length : tie.Need-same-length
+same_length : tie.Need-shape_of-out
 same_length c = search rules
 
 returns : tie.Need-returns
 returns c =
-    let start = c.before.before.before.before.before.before.before.before.before in
+    let start = c in
     let id = start.args.id in
-    let type : ℕ = type_number start.args.packet-type in
+    let type : ℕ = type_number start.args.packet_type in
     let flags : ℕ = start.args.flags.0 in
     let count : ℕ = start.args.count in
-    sealed_over (fixed_fields type flags id count) start.args.out.now (length_fixed type flags id count) c.before.before.before.before.before.before.write-fields.ensures c.before.before.seal.ensures
+    sealed_over (fixed_fields type flags id count) start.args.out.now (length_fixed type flags id count) c.write_fields.ensures c.seal.ensures
 
-pub write-fixed-spec : {M : Type 1} → statement M
-write-fixed-spec = tie.close (tie.spec write-fields-requires seal-requires same_length returns)
+pub write_fixed_spec : {M : Type 1} → statement M
+write_fixed_spec = tie.close (tie.spec write_fields-requires seal-requires same_length returns)

@@ -8,22 +8,22 @@ use Rattle.text_size.proofs.SizeLaws.{row_null, row_empty, row_values, row_count
 use Rattle.text_size.proofs.row_size.Statement.{statement}
 use Rattle.text_size.proofs.row_size.Tie as tie
 
-returns : tie.Need-returns
-returns c = let a = c.before.before.before.args in sym (ap length (row_null a.area.now a.values.now a.count a.k c.if1.true))
+returns : tie.Need-returns-then-count-eq-NULL_ROW_MARKER
+returns c = let a = c.args in sym (ap length (row_null a.area.now a.values.now a.count a.k c.if-count-eq-NULL_ROW_MARKER.true))
 
-returns-2 : tie.Need-returns-2
-returns-2 c = let a = c.before.before.before.before.args in sym (ap length (row_empty a.area.now a.values.now a.count a.k c.if2.true))
+returns-2 : tie.Need-returns-then-count-eq0
+returns-2 c = let a = c.args in sym (ap length (row_empty a.area.now a.values.now a.count a.k c.if-count-eq0.true))
 
-values-size-requires : tie.Need-values-size-requires
-values-size-requires c κs =
-    let start = c.before.before.before.before in
-    let same = ap length (row_values start.args.area.now start.args.values.now start.args.count start.args.k c.before.if1.false c.if2.false) in
-    (start.requires.0, start.requires.1, omega (arith, start.requires.2, row_count start.args.count c.before.if1.false), omega (arith, same, start.requires.3))
+values_size-requires : tie.Need-values_size-requires
+values_size-requires c κs =
+    let start = c in
+    let same = ap length (row_values start.args.area.now start.args.values.now start.args.count start.args.k c.if-count-eq-NULL_ROW_MARKER.false c.if-count-eq0.false) in
+    (start.requires.0, start.requires.1, omega (arith, start.requires.2, row_count start.args.count c.if-count-eq-NULL_ROW_MARKER.false), omega (arith, same, start.requires.3))
 
-returns-3 : tie.Need-returns-3
+returns-3 : tie.Need-returns
 returns-3 c =
-    let a = c.before.before.before.before.before.args in
-    c.values_size.ensures ∙ sym (ap length (row_values a.area.now a.values.now a.count a.k c.before.before.if1.false c.before.if2.false))
+    let a = c.args in
+    c.values_size.ensures ∙ sym (ap length (row_values a.area.now a.values.now a.count a.k c.if-count-eq-NULL_ROW_MARKER.false c.if-count-eq0.false))
 
-pub row-size-spec : {M : Type 1} → statement M
-row-size-spec = tie.close (tie.spec returns returns-2 values-size-requires returns-3)
+pub row_size_spec : {M : Type 1} → statement M
+row_size_spec = tie.close (tie.spec returns returns-2 values_size-requires returns-3)

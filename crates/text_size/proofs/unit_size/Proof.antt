@@ -5,14 +5,14 @@ use Rattle.text_size.proofs.SizeLaws.{unit_escaped, unit_plain}
 use Rattle.text_size.proofs.unit_size.Statement.{statement}
 use Rattle.text_size.proofs.unit_size.Tie as tie
 
-is-escaped-requires : tie.Need-is-escaped-requires
-is-escaped-requires c κs = search rules
+is_escaped-requires : tie.Need-is_escaped-requires
+is_escaped-requires c κs = search rules
 
-returns : tie.Need-returns
-returns c = sym (unit_escaped _ (sym c.before.is-escaped.ensures ∙ c.if1.true))
+returns : tie.Need-returns-then-is_escaped
+returns c = sym (unit_escaped _ (sym c.is_escaped.ensures ∙ c.if-is_escaped.true))
 
-returns-2 : tie.Need-returns-2
-returns-2 c = sym (unit_plain _ (sym c.before.is-escaped.ensures ∙ c.if1.false))
+returns-2 : tie.Need-returns-else-is_escaped
+returns-2 c = sym (unit_plain _ (sym c.is_escaped.ensures ∙ c.if-is_escaped.false))
 
-pub unit-size-spec : {M : Type 1} → statement M
-unit-size-spec = tie.close (tie.spec is-escaped-requires returns returns-2)
+pub unit_size_spec : {M : Type 1} → statement M
+unit_size_spec = tie.close (tie.spec is_escaped-requires returns returns-2)

@@ -5,36 +5,36 @@ use borrow.Author.Rules.{rules}
 use Rattle.why_packet.proofs.waited.Statement.{statement}
 use Rattle.why_packet.proofs.waited.Tie as tie
 
-returns : tie.Need-returns
+returns : tie.Need-returns-then-input-lt-FIXED_HEADER_SIZE
 returns c =
-    let start' = c.before.before.before in
-    more_fixed start'.args.input.now start'.args.count c.if1.true
+    let start' = c in
+    more_fixed start'.args.input.now start'.args.count c.if-input-lt-FIXED_HEADER_SIZE.true
 
-decode-with-requires : tie.Need-decode-with-requires
-decode-with-requires c κs = search rules
+decode_with-requires : tie.Need-decode_with-requires
+decode_with-requires c κs = search rules
 
-outcome-requires : tie.Need-outcome-requires
+outcome-requires : tie.Need-outcome-told-requires
 outcome-requires c κs = search rules
 
-length-field-requires : tie.Need-length-field-requires
-length-field-requires c κs = search rules
+length_field-requires : tie.Need-length_field-requires
+length_field-requires c κs = search rules
 
-same_length : tie.Need-same-length
+same_length : tie.Need-shape_of-none
 same_length c = search rules
 
-returns-2 : tie.Need-returns-2
+returns-2 : tie.Need-returns
 returns-2 c =
-    let start = c.before.before.before.before.before.before.before.before.before in
-    let read = c.before.before.before.before.decode-with in
-    more_length start.args.input.now start.args.count start.args.mode start.args.max-part-count start.requires c.before.before.before.before.before.before.if1.false start.args.none.now read.result _ read.ensures c.before.outcome.result _ c.before.outcome.ensures c.length-field.ensures
+    let start = c in
+    let read = c.decode_with in
+    more_length start.args.input.now start.args.count start.args.mode start.args.max_part_count start.requires c.if-input-lt-FIXED_HEADER_SIZE.false start.args.none.now read.result _ read.ensures c.outcome-told.result _ c.outcome-told.ensures c.length_field.ensures
 
-pub waited-spec : {M : Type 1} → statement M
-waited-spec =
+pub waited_spec : {M : Type 1} → statement M
+waited_spec =
     tie.close
     (tie.spec
     returns
-    decode-with-requires
+    decode_with-requires
     outcome-requires
-    length-field-requires
+    length_field-requires
     same_length
     returns-2)

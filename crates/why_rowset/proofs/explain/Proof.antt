@@ -4,25 +4,25 @@ use borrow.Author.Rules.{rules}
 use Rattle.why_rowset.proofs.explain.Statement.{statement}
 use Rattle.why_rowset.proofs.explain.Tie as tie
 
-walk-rowset-requires : tie.Need-walk-rowset-requires
-walk-rowset-requires c κs = search rules
+walk_rowset-requires : tie.Need-walk_rowset-requires
+walk_rowset-requires c κs = search rules
 
-enum-known-finding : tie.Need-enum-known-finding
-enum-known-finding c = search rules
+enum_known-finding : tie.Need-enum_known-finding
+enum_known-finding c = search rules
 
-enum-known-plain : tie.Need-enum-known-plain
-enum-known-plain c = search rules
+enum_known-plain : tie.Need-enum_known-plain
+enum_known-plain c = search rules
 
-returns : tie.Need-returns
+returns : tie.Need-returns-in-Found
 returns c =
-    let start = c.before.before.before.before.before in
-    explain_found start.args.input.now _ c.before.before.before.walk-rowset.ensures _ c.before.finding.given.1
+    let start = c in
+    explain_found start.args.input.now _ c.walk_rowset.ensures _ c.in-Found.is
 
-returns-2 : tie.Need-returns-2
+returns-2 : tie.Need-returns-in-At
 returns-2 c =
-    let start = c.before.before.before.before.before in
-    explain_plain start.args.input.now _ c.before.before.before.walk-rowset.ensures _ _ c.before.plain.given.1
+    let start = c in
+    explain_plain start.args.input.now _ c.walk_rowset.ensures _ _ c.in-At.is
 
-pub explain-spec : {M : Type 1} → statement M
-explain-spec =
-    tie.close (tie.spec walk-rowset-requires enum-known-finding enum-known-plain returns returns-2)
+pub explain_spec : {M : Type 1} → statement M
+explain_spec =
+    tie.close (tie.spec walk_rowset-requires enum_known-finding enum_known-plain returns returns-2)

@@ -80,21 +80,21 @@ pairs-at t = and 1 pairs-kinds.ps (is 1 pairs-kinds.ps μ-pairs t) pairs.Pre
 abbrev pairs_below : ℕ → In 1 pairs-kinds.ps
 pairs_below t = and 1 pairs-kinds.ps (falls 1 pairs-kinds.ps ◌<◌ μ-pairs t) pairs.Pre
 
-abbrev list-Inv-loop : list-lts.invariant-loop
+abbrev list-Inv-loop : list-lts.invariant-loop-start
 list-Inv-loop s start depth item₀ item = Passed s square depth start item 0
 
-abbrev list-μ-loop : list-lts.decreases-loop
+abbrev list-μ-loop : list-lts.decreases-loop-start
 list-μ-loop s start depth item₀ item = length s - item
 
-list-loop-holds : (t : ℕ) → list-lts.Need-loop-init (
+list-loop-holds : (t : ℕ) → list-lts.Need-loop-start-init (
   byte-at-reads.Asked,
   byte-at-reads.Learnt,
   node-below t,
   node.Post,
 ) (list_at t) list.Post list-Inv-loop list-μ-loop
-list-loop-holds t c = passed_none _ square _ c.before.args.start
+list-loop-holds t c = passed_none _ square _ c.args.start
 
-list-byte-at-requires : (t : ℕ) → list-lts.Need-byte-at-requires (
+list-byte-at-requires : (t : ℕ) → list-lts.Need-byte_at-requires (
   byte-at-reads.Asked,
   byte-at-reads.Learnt,
   node-below t,
@@ -102,21 +102,21 @@ list-byte-at-requires : (t : ℕ) → list-lts.Need-byte-at-requires (
 ) (list_at t) list.Post list-Inv-loop list-μ-loop
 list-byte-at-requires t c κs = search rules
 
-list-add-t10 : (t : ℕ) → list-lts.Need-overflow-add-t10 (
+list-add-t10 : (t : ℕ) → list-lts.Need-overflow_add-result (
   byte-at-reads.Asked,
   byte-at-reads.Learnt,
   node-below t,
   node.Post,
 ) (list_at t) list.Post list-Inv-loop list-μ-loop
-list-add-t10 t c = omega (arith, inside c.before.before.before.before.args.s.now c.before.before.loop.item 92 (sym c.before.byte_at.ensures ∙ c.if1.true))
+list-add-t10 t c = omega (arith, inside c.args.s.now c.loop-start.item 92 (sym c.byte_at.ensures ∙ c.if-byte_at-eq93.true))
 
-list-returns : (t : ℕ) → list-lts.Need-returns (
+list-returns : (t : ℕ) → list-lts.Need-returns-then-byte_at-eq93 (
   byte-at-reads.Asked,
   byte-at-reads.Learnt,
   node-below t,
   node.Post,
 ) (list_at t) list.Post list-Inv-loop list-μ-loop
-list-returns t c = items_end _ square _ _ _ _ c.before.before.loop.invariant 0 refl (sym c.before.byte_at.ensures ∙ c.if1.true)
+list-returns t c = items_end _ square _ _ _ _ c.loop-start.invariant 0 refl (sym c.byte_at.ensures ∙ c.if-byte_at-eq93.true)
 
 list-node-requires : (t : ℕ) → list-lts.Need-node-requires (
   byte-at-reads.Asked,
@@ -124,9 +124,9 @@ list-node-requires : (t : ℕ) → list-lts.Need-node-requires (
   node-below t,
   node.Post,
 ) (list_at t) list.Post list-Inv-loop list-μ-loop
-list-node-requires t c κs = (omega (arith, c.before.before.before.before.requires.0), tt)
+list-node-requires t c κs = (omega (arith, c.requires.0), tt)
 
-list-enum-known-fault : (t : ℕ) → list-lts.Need-enum-known-fault (
+list-enum-known-fault : (t : ℕ) → list-lts.Need-enum_known-fault (
   byte-at-reads.Asked,
   byte-at-reads.Learnt,
   node-below t,
@@ -134,15 +134,15 @@ list-enum-known-fault : (t : ℕ) → list-lts.Need-enum-known-fault (
 ) (list_at t) list.Post list-Inv-loop list-μ-loop
 list-enum-known-fault t c = search rules
 
-list-returns-2 : (t : ℕ) → list-lts.Need-returns-2 (
+list-returns-2 : (t : ℕ) → list-lts.Need-returns-in-Refused (
   byte-at-reads.Asked,
   byte-at-reads.Learnt,
   node-below t,
   node.Post,
 ) (list_at t) list.Post list-Inv-loop list-μ-loop
-list-returns-2 t c = items_not _ square _ _ _ _ c.before.before.before.before.before.before.loop.invariant _ (listed_fails _ _ _ _ (λ e. c.before.before.before.before.if1.false (c.before.before.before.before.before.byte_at.ensures ∙ e)) (rw c.before.fault.given.1 at c.before.before.before.node.ensures))
+list-returns-2 t c = items_not _ square _ _ _ _ c.loop-start.invariant _ (listed_fails _ _ _ _ (λ e. c.if-byte_at-eq93.false (c.byte_at.ensures ∙ e)) (rw c.in-Refused.is at c.node.ensures))
 
-list-enum-known-end : (t : ℕ) → list-lts.Need-enum-known-end (
+list-enum-known-end : (t : ℕ) → list-lts.Need-enum_known-end (
   byte-at-reads.Asked,
   byte-at-reads.Learnt,
   node-below t,
@@ -150,7 +150,7 @@ list-enum-known-end : (t : ℕ) → list-lts.Need-enum-known-end (
 ) (list_at t) list.Post list-Inv-loop list-μ-loop
 list-enum-known-end t c = search rules
 
-list-byte-at-requires-2 : (t : ℕ) → list-lts.Need-byte-at-requires-2 (
+list-byte-at-requires-2 : (t : ℕ) → list-lts.Need-byte_at-behind-requires (
   byte-at-reads.Asked,
   byte-at-reads.Learnt,
   node-below t,
@@ -158,55 +158,55 @@ list-byte-at-requires-2 : (t : ℕ) → list-lts.Need-byte-at-requires-2 (
 ) (list_at t) list.Post list-Inv-loop list-μ-loop
 list-byte-at-requires-2 t c κs = search rules
 
-list-add-t13 : (t : ℕ) → list-lts.Need-overflow-add-t13 (
+list-add-t13 : (t : ℕ) → list-lts.Need-overflow_add-result-then-behind-eq93 (
   byte-at-reads.Asked,
   byte-at-reads.Learnt,
   node-below t,
   node.Post,
 ) (list_at t) list.Post list-Inv-loop list-μ-loop
-list-add-t13 t c = omega (arith, inside c.before.before.before.before.before.before.before.before.before.before.args.s.now c.before.before.before.end.given.0.0 92 (sym c.before.byte-at2.ensures ∙ c.if2.true))
+list-add-t13 t c = omega (arith, inside c.args.s.now c.in-Ended.end 92 (sym c.byte_at-behind.ensures ∙ c.if-behind-eq93.true))
 
-list-returns-3 : (t : ℕ) → list-lts.Need-returns-3 (
+list-returns-3 : (t : ℕ) → list-lts.Need-returns-then-behind-eq93 (
   byte-at-reads.Asked,
   byte-at-reads.Learnt,
   node-below t,
   node.Post,
 ) (list_at t) list.Post list-Inv-loop list-μ-loop
-list-returns-3 t c = items_last _ square _ _ _ _ c.before.before.before.before.before.before.before.before.loop.invariant _ (listed_ends _ _ _ _ _ _ (λ e. c.before.before.before.before.before.before.if1.false (c.before.before.before.before.before.before.before.byte_at.ensures ∙ e)) (rw c.before.before.before.end.given.1 at c.before.before.before.before.before.node.ensures)) 0 0 refl refl (sym c.before.byte-at2.ensures ∙ c.if2.true)
+list-returns-3 t c = items_last _ square _ _ _ _ c.loop-start.invariant _ (listed_ends _ _ _ _ _ _ (λ e. c.if-byte_at-eq93.false (c.byte_at.ensures ∙ e)) (rw c.in-Ended.is at c.node.ensures)) 0 0 refl refl (sym c.byte_at-behind.ensures ∙ c.if-behind-eq93.true)
 
-list-returns-4 : (t : ℕ) → list-lts.Need-returns-4 (
+list-returns-4 : (t : ℕ) → list-lts.Need-returns-then-behind-ne59 (
   byte-at-reads.Asked,
   byte-at-reads.Learnt,
   node-below t,
   node.Post,
 ) (list_at t) list.Post list-Inv-loop list-μ-loop
-list-returns-4 t c = items_bad _ square _ _ _ _ c.before.before.before.before.before.before.before.before.before.loop.invariant _ (listed_ends _ _ _ _ _ _ (λ e. c.before.before.before.before.before.before.before.if1.false (c.before.before.before.before.before.before.before.before.byte_at.ensures ∙ e)) (rw c.before.before.before.before.end.given.1 at c.before.before.before.before.before.before.node.ensures)) (λ e. c.before.if2.false (c.before.before.byte-at2.ensures ∙ e)) (λ e. c.if3.true (c.before.before.byte-at2.ensures ∙ e))
+list-returns-4 t c = items_bad _ square _ _ _ _ c.loop-start.invariant _ (listed_ends _ _ _ _ _ _ (λ e. c.if-byte_at-eq93.false (c.byte_at.ensures ∙ e)) (rw c.in-Ended.is at c.node.ensures)) (λ e. c.if-behind-eq93.false (c.byte_at-behind.ensures ∙ e)) (λ e. c.if-behind-ne59.true (c.byte_at-behind.ensures ∙ e))
 
-list-add-item : (t : ℕ) → list-lts.Need-overflow-add-item (
+list-add-item : (t : ℕ) → list-lts.Need-overflow_add-item (
   byte-at-reads.Asked,
   byte-at-reads.Learnt,
   node-below t,
   node.Post,
 ) (list_at t) list.Post list-Inv-loop list-μ-loop
-list-add-item t c = omega (arith, inside c.before.before.before.before.before.before.before.before.before.before.before.args.s.now c.before.before.before.before.end.given.0.0 58 (sym c.before.before.byte-at2.ensures ∙ c.if3.false))
+list-add-item t c = omega (arith, inside c.args.s.now c.in-Ended.end 58 (sym c.byte_at-behind.ensures ∙ c.if-behind-ne59.false))
 
-list-loop-less : (t : ℕ) → list-lts.Need-loop-smaller (
+list-loop-less : (t : ℕ) → list-lts.Need-loop-start-smaller (
   byte-at-reads.Asked,
   byte-at-reads.Learnt,
   node-below t,
   node.Post,
 ) (list_at t) list.Post list-Inv-loop list-μ-loop
-list-loop-less t c = items_shorter _ square _ _ _ _ c.before.before.before.before.before.before.before.before.before.loop.invariant _ (listed_ends _ _ _ _ _ _ (λ e. c.before.before.before.before.before.before.before.if1.false (c.before.before.before.before.before.before.before.before.byte_at.ensures ∙ e)) (rw c.before.before.before.before.end.given.1 at c.before.before.before.before.before.before.node.ensures)) (sym c.before.before.byte-at2.ensures ∙ c.if3.false)
+list-loop-less t c = items_shorter _ square _ _ _ _ c.loop-start.invariant _ (listed_ends _ _ _ _ _ _ (λ e. c.if-byte_at-eq93.false (c.byte_at.ensures ∙ e)) (rw c.in-Ended.is at c.node.ensures)) (sym c.byte_at-behind.ensures ∙ c.if-behind-ne59.false)
 
-list-loop-again : (t : ℕ) → list-lts.Need-loop-preserved (
+list-loop-again : (t : ℕ) → list-lts.Need-loop-start-preserved (
   byte-at-reads.Asked,
   byte-at-reads.Learnt,
   node-below t,
   node.Post,
 ) (list_at t) list.Post list-Inv-loop list-μ-loop
-list-loop-again t c = items_more _ square _ _ _ _ c.before.before.before.before.before.before.before.before.before.loop.invariant _ (listed_ends _ _ _ _ _ _ (λ e. c.before.before.before.before.before.before.before.if1.false (c.before.before.before.before.before.before.before.before.byte_at.ensures ∙ e)) (rw c.before.before.before.before.end.given.1 at c.before.before.before.before.before.before.node.ensures)) 0 refl (omega arith) (sym c.before.before.byte-at2.ensures ∙ c.if3.false)
+list-loop-again t c = items_more _ square _ _ _ _ c.loop-start.invariant _ (listed_ends _ _ _ _ _ _ (λ e. c.if-byte_at-eq93.false (c.byte_at.ensures ∙ e)) (rw c.in-Ended.is at c.node.ensures)) 0 refl (omega arith) (sym c.byte_at-behind.ensures ∙ c.if-behind-ne59.false)
 
-node-byte-at-requires : (t : ℕ) → node-lts.Need-byte-at-requires (
+node-byte-at-requires : (t : ℕ) → node-lts.Need-byte_at-requires (
   byte-at-reads.Asked,
   byte-at-reads.Learnt,
   object-below t,
@@ -224,9 +224,9 @@ node-object-requires : (t : ℕ) → node-lts.Need-object-requires (
   pairs_below t,
   pairs.Post,
 ) (node_at t) node.Post
-node-object-requires t c κs = (omega (arith, c.before.before.before.requires.0), tt)
+node-object-requires t c κs = (omega (arith, c.requires.0), tt)
 
-node-returns : (t : ℕ) → node-lts.Need-returns (
+node-returns : (t : ℕ) → node-lts.Need-returns-then-byte_at-ne60 (
   byte-at-reads.Asked,
   byte-at-reads.Learnt,
   object-below t,
@@ -234,9 +234,9 @@ node-returns : (t : ℕ) → node-lts.Need-returns (
   pairs_below t,
   pairs.Post,
 ) (node_at t) node.Post
-node-returns t c = reads_object _ _ _ _ (λ e. c.before.if1.true (c.before.before.byte_at.ensures ∙ e)) c.object.ensures
+node-returns t c = reads_object _ _ _ _ (λ e. c.if-byte_at-ne60.true (c.byte_at.ensures ∙ e)) c.object.ensures
 
-node-returns-2 : (t : ℕ) → node-lts.Need-returns-2 (
+node-returns-2 : (t : ℕ) → node-lts.Need-returns-then-depth-eq0 (
   byte-at-reads.Asked,
   byte-at-reads.Learnt,
   object-below t,
@@ -244,9 +244,9 @@ node-returns-2 : (t : ℕ) → node-lts.Need-returns-2 (
   pairs_below t,
   pairs.Post,
 ) (node_at t) node.Post
-node-returns-2 t c = reads_node_deep _ _ _ (sym c.before.before.byte_at.ensures ∙ c.before.if1.false) c.if2.true
+node-returns-2 t c = reads_node_deep _ _ _ (sym c.byte_at.ensures ∙ c.if-byte_at-ne60.false) c.if-depth-eq0.true
 
-node-add-pairs : (t : ℕ) → node-lts.Need-overflow-add-pairs (
+node-add-pairs : (t : ℕ) → node-lts.Need-overflow_add-at (
   byte-at-reads.Asked,
   byte-at-reads.Learnt,
   object-below t,
@@ -255,10 +255,10 @@ node-add-pairs : (t : ℕ) → node-lts.Need-overflow-add-pairs (
   pairs.Post,
 ) (node_at t) node.Post
 node-add-pairs t c =
-    let start' = c.before.before.before.before in
-    omega (arith, inside start'.args.s.now start'.args.at 59 (sym c.before.before.byte_at.ensures ∙ c.before.if1.false))
+    let start' = c in
+    omega (arith, inside start'.args.s.now start'.args.at 59 (sym c.byte_at.ensures ∙ c.if-byte_at-ne60.false))
 
-node-sub-pairs : (t : ℕ) → node-lts.Need-overflow-sub-pairs (
+node-sub-pairs : (t : ℕ) → node-lts.Need-overflow_sub-depth (
   byte-at-reads.Asked,
   byte-at-reads.Learnt,
   object-below t,
@@ -266,7 +266,7 @@ node-sub-pairs : (t : ℕ) → node-lts.Need-overflow-sub-pairs (
   pairs_below t,
   pairs.Post,
 ) (node_at t) node.Post
-node-sub-pairs t c = omega (arith, c.if2.false)
+node-sub-pairs t c = omega (arith, c.if-depth-eq0.false)
 
 node-pairs-requires : (t : ℕ) → node-lts.Need-pairs-requires (
   byte-at-reads.Asked,
@@ -276,9 +276,9 @@ node-pairs-requires : (t : ℕ) → node-lts.Need-pairs-requires (
   pairs_below t,
   pairs.Post,
 ) (node_at t) node.Post
-node-pairs-requires t c κs = (omega (arith, c.before.before.before.before.requires.0, c.if2.false), refl)
+node-pairs-requires t c κs = (omega (arith, c.requires.0, c.if-depth-eq0.false), refl)
 
-node-enum-known-fault : (t : ℕ) → node-lts.Need-enum-known-fault (
+node-enum-known-fault : (t : ℕ) → node-lts.Need-enum_known-fault (
   byte-at-reads.Asked,
   byte-at-reads.Learnt,
   object-below t,
@@ -288,7 +288,7 @@ node-enum-known-fault : (t : ℕ) → node-lts.Need-enum-known-fault (
 ) (node_at t) node.Post
 node-enum-known-fault t c = search rules
 
-node-enum-known-end : (t : ℕ) → node-lts.Need-enum-known-end (
+node-enum-known-end : (t : ℕ) → node-lts.Need-enum_known-end (
   byte-at-reads.Asked,
   byte-at-reads.Learnt,
   object-below t,
@@ -298,7 +298,7 @@ node-enum-known-end : (t : ℕ) → node-lts.Need-enum-known-end (
 ) (node_at t) node.Post
 node-enum-known-end t c = search rules
 
-node-object-requires-2 : (t : ℕ) → node-lts.Need-object-requires-2 (
+node-object-requires-2 : (t : ℕ) → node-lts.Need-object-requires-in-Ended (
   byte-at-reads.Asked,
   byte-at-reads.Learnt,
   object-below t,
@@ -306,9 +306,9 @@ node-object-requires-2 : (t : ℕ) → node-lts.Need-object-requires-2 (
   pairs_below t,
   pairs.Post,
 ) (node_at t) node.Post
-node-object-requires-2 t c κs = (omega (arith, c.before.before.before.before.before.before.before.before.requires.0), tt)
+node-object-requires-2 t c κs = (omega (arith, c.requires.0), tt)
 
-node-returns-3 : (t : ℕ) → node-lts.Need-returns-3 (
+node-returns-3 : (t : ℕ) → node-lts.Need-returns-in-Refused (
   byte-at-reads.Asked,
   byte-at-reads.Learnt,
   object-below t,
@@ -316,9 +316,9 @@ node-returns-3 : (t : ℕ) → node-lts.Need-returns-3 (
   pairs_below t,
   pairs.Post,
 ) (node_at t) node.Post
-node-returns-3 t c = reads_attributes_not _ _ _ _ (sym c.before.before.before.before.before.before.byte_at.ensures ∙ c.before.before.before.before.before.if1.false) (pos_of_ne-zero c.before.before.before.before.if2.false) (rw c.before.fault.given.1 at c.before.before.before.pairs.ensures)
+node-returns-3 t c = reads_attributes_not _ _ _ _ (sym c.byte_at.ensures ∙ c.if-byte_at-ne60.false) (pos_of_ne-zero c.if-depth-eq0.false) (rw c.in-Refused.is at c.pairs.ensures)
 
-node-returns-4 : (t : ℕ) → node-lts.Need-returns-4 (
+node-returns-4 : (t : ℕ) → node-lts.Need-returns-in-Ended (
   byte-at-reads.Asked,
   byte-at-reads.Learnt,
   object-below t,
@@ -326,9 +326,9 @@ node-returns-4 : (t : ℕ) → node-lts.Need-returns-4 (
   pairs_below t,
   pairs.Post,
 ) (node_at t) node.Post
-node-returns-4 t c = reads_attributes _ _ _ _ _ _ _ (sym c.before.before.before.before.before.before.before.byte_at.ensures ∙ c.before.before.before.before.before.before.if1.false) (pos_of_ne-zero c.before.before.before.before.before.if2.false) (rw c.before.before.end.given.1 at c.before.before.before.before.pairs.ensures) c.object2.ensures
+node-returns-4 t c = reads_attributes _ _ _ _ _ _ _ (sym c.byte_at.ensures ∙ c.if-byte_at-ne60.false) (pos_of_ne-zero c.if-depth-eq0.false) (rw c.in-Ended.is at c.pairs.ensures) c.object-in-Ended.ensures
 
-object-byte-at-requires : (t : ℕ) → object-lts.Need-byte-at-requires (
+object-byte-at-requires : (t : ℕ) → object-lts.Need-byte_at-first-requires (
   byte-at-reads.Asked,
   byte-at-reads.Learnt,
   list-below t,
@@ -340,7 +340,7 @@ object-byte-at-requires : (t : ℕ) → object-lts.Need-byte-at-requires (
 ) (object-at t) object.Post
 object-byte-at-requires t c κs = search rules
 
-object-returns : (t : ℕ) → object-lts.Need-returns (
+object-returns : (t : ℕ) → object-lts.Need-returns-then-depth-eq0 (
   byte-at-reads.Asked,
   byte-at-reads.Learnt,
   list-below t,
@@ -350,9 +350,9 @@ object-returns : (t : ℕ) → object-lts.Need-returns (
   scalar-reads.Asked,
   scalar-reads.Learnt,
 ) (object-at t) object.Post
-object-returns t c = reads_list_deep _ _ _ (sym c.before.before.byte_at.ensures ∙ c.before.if1.true) c.if2.true
+object-returns t c = reads_list_deep _ _ _ (sym c.byte_at-first.ensures ∙ c.if-first-eq91.true) c.if-depth-eq0.true
 
-object-add-list : (t : ℕ) → object-lts.Need-overflow-add-list (
+object-add-list : (t : ℕ) → object-lts.Need-overflow_add-at (
   byte-at-reads.Asked,
   byte-at-reads.Learnt,
   list-below t,
@@ -363,10 +363,10 @@ object-add-list : (t : ℕ) → object-lts.Need-overflow-add-list (
   scalar-reads.Learnt,
 ) (object-at t) object.Post
 object-add-list t c =
-    let start' = c.before.before.before.before in
-    omega (arith, inside start'.args.s.now start'.args.at 90 (sym c.before.before.byte_at.ensures ∙ c.before.if1.true))
+    let start' = c in
+    omega (arith, inside start'.args.s.now start'.args.at 90 (sym c.byte_at-first.ensures ∙ c.if-first-eq91.true))
 
-object-sub-list : (t : ℕ) → object-lts.Need-overflow-sub-list (
+object-sub-list : (t : ℕ) → object-lts.Need-overflow_sub-depth (
   byte-at-reads.Asked,
   byte-at-reads.Learnt,
   list-below t,
@@ -376,7 +376,7 @@ object-sub-list : (t : ℕ) → object-lts.Need-overflow-sub-list (
   scalar-reads.Asked,
   scalar-reads.Learnt,
 ) (object-at t) object.Post
-object-sub-list t c = omega (arith, c.if2.false)
+object-sub-list t c = omega (arith, c.if-depth-eq0.false)
 
 object-list-requires : (t : ℕ) → object-lts.Need-list-requires (
   byte-at-reads.Asked,
@@ -388,9 +388,9 @@ object-list-requires : (t : ℕ) → object-lts.Need-list-requires (
   scalar-reads.Asked,
   scalar-reads.Learnt,
 ) (object-at t) object.Post
-object-list-requires t c κs = (omega (arith, c.before.before.before.before.requires.0, c.if2.false), tt)
+object-list-requires t c κs = (omega (arith, c.requires.0, c.if-depth-eq0.false), tt)
 
-object-returns-2 : (t : ℕ) → object-lts.Need-returns-2 (
+object-returns-2 : (t : ℕ) → object-lts.Need-returns-then-first-eq91 (
   byte-at-reads.Asked,
   byte-at-reads.Learnt,
   list-below t,
@@ -400,9 +400,9 @@ object-returns-2 : (t : ℕ) → object-lts.Need-returns-2 (
   scalar-reads.Asked,
   scalar-reads.Learnt,
 ) (object-at t) object.Post
-object-returns-2 t c = reads_list _ _ _ _ (sym c.before.before.before.byte_at.ensures ∙ c.before.before.if1.true) (pos_of_ne-zero c.before.if2.false) c.list.ensures
+object-returns-2 t c = reads_list _ _ _ _ (sym c.byte_at-first.ensures ∙ c.if-first-eq91.true) (pos_of_ne-zero c.if-depth-eq0.false) c.list.ensures
 
-object-returns-3 : (t : ℕ) → object-lts.Need-returns-3 (
+object-returns-3 : (t : ℕ) → object-lts.Need-returns-then-depth-eq0-2 (
   byte-at-reads.Asked,
   byte-at-reads.Learnt,
   list-below t,
@@ -412,9 +412,9 @@ object-returns-3 : (t : ℕ) → object-lts.Need-returns-3 (
   scalar-reads.Asked,
   scalar-reads.Learnt,
 ) (object-at t) object.Post
-object-returns-3 t c = reads_map_deep _ _ _ (sym c.before.before.before.byte_at.ensures ∙ c.before.if3.true) c.if4.true
+object-returns-3 t c = reads_map_deep _ _ _ (sym c.byte_at-first.ensures ∙ c.if-first-eq123.true) c.if-depth-eq0-2.true
 
-object-add-pairs : (t : ℕ) → object-lts.Need-overflow-add-pairs (
+object-add-pairs : (t : ℕ) → object-lts.Need-overflow_add-at-then-first-eq123 (
   byte-at-reads.Asked,
   byte-at-reads.Learnt,
   list-below t,
@@ -425,10 +425,10 @@ object-add-pairs : (t : ℕ) → object-lts.Need-overflow-add-pairs (
   scalar-reads.Learnt,
 ) (object-at t) object.Post
 object-add-pairs t c =
-    let start' = c.before.before.before.before.before in
-    omega (arith, inside start'.args.s.now start'.args.at 122 (sym c.before.before.before.byte_at.ensures ∙ c.before.if3.true))
+    let start' = c in
+    omega (arith, inside start'.args.s.now start'.args.at 122 (sym c.byte_at-first.ensures ∙ c.if-first-eq123.true))
 
-object-sub-pairs : (t : ℕ) → object-lts.Need-overflow-sub-pairs (
+object-sub-pairs : (t : ℕ) → object-lts.Need-overflow_sub-depth-then-first-eq123 (
   byte-at-reads.Asked,
   byte-at-reads.Learnt,
   list-below t,
@@ -438,7 +438,7 @@ object-sub-pairs : (t : ℕ) → object-lts.Need-overflow-sub-pairs (
   scalar-reads.Asked,
   scalar-reads.Learnt,
 ) (object-at t) object.Post
-object-sub-pairs t c = omega (arith, c.if4.false)
+object-sub-pairs t c = omega (arith, c.if-depth-eq0-2.false)
 
 object-pairs-requires : (t : ℕ) → object-lts.Need-pairs-requires (
   byte-at-reads.Asked,
@@ -450,9 +450,9 @@ object-pairs-requires : (t : ℕ) → object-lts.Need-pairs-requires (
   scalar-reads.Asked,
   scalar-reads.Learnt,
 ) (object-at t) object.Post
-object-pairs-requires t c κs = (omega (arith, c.before.before.before.before.before.requires.0, c.if4.false), refl)
+object-pairs-requires t c κs = (omega (arith, c.requires.0, c.if-depth-eq0-2.false), refl)
 
-object-returns-4 : (t : ℕ) → object-lts.Need-returns-4 (
+object-returns-4 : (t : ℕ) → object-lts.Need-returns-then-first-eq123 (
   byte-at-reads.Asked,
   byte-at-reads.Learnt,
   list-below t,
@@ -462,7 +462,7 @@ object-returns-4 : (t : ℕ) → object-lts.Need-returns-4 (
   scalar-reads.Asked,
   scalar-reads.Learnt,
 ) (object-at t) object.Post
-object-returns-4 t c = reads_map _ _ _ _ (sym c.before.before.before.before.byte_at.ensures ∙ c.before.before.if3.true) (pos_of_ne-zero c.before.if4.false) c.pairs.ensures
+object-returns-4 t c = reads_map _ _ _ _ (sym c.byte_at-first.ensures ∙ c.if-first-eq123.true) (pos_of_ne-zero c.if-depth-eq0-2.false) c.pairs.ensures
 
 object-scalar-requires : (t : ℕ) → object-lts.Need-scalar-requires (
   byte-at-reads.Asked,
@@ -476,7 +476,7 @@ object-scalar-requires : (t : ℕ) → object-lts.Need-scalar-requires (
 ) (object-at t) object.Post
 object-scalar-requires t c κs = search rules
 
-object-enum-known-end : (t : ℕ) → object-lts.Need-enum-known-end (
+object-enum-known-end : (t : ℕ) → object-lts.Need-enum_known-end (
   byte-at-reads.Asked,
   byte-at-reads.Learnt,
   list-below t,
@@ -488,7 +488,7 @@ object-enum-known-end : (t : ℕ) → object-lts.Need-enum-known-end (
 ) (object-at t) object.Post
 object-enum-known-end t c = search rules
 
-object-enum-told : (t : ℕ) → object-lts.Need-enum-told (
+object-enum-told : (t : ℕ) → object-lts.Need-enum_told-1 (
   byte-at-reads.Asked,
   byte-at-reads.Learnt,
   list-below t,
@@ -500,7 +500,7 @@ object-enum-told : (t : ℕ) → object-lts.Need-enum-told (
 ) (object-at t) object.Post
 object-enum-told t c = search rules
 
-object-returns-5 : (t : ℕ) → object-lts.Need-returns-5 (
+object-returns-5 : (t : ℕ) → object-lts.Need-returns-in-Whole (
   byte-at-reads.Asked,
   byte-at-reads.Learnt,
   list-below t,
@@ -511,10 +511,10 @@ object-returns-5 : (t : ℕ) → object-lts.Need-returns-5 (
   scalar-reads.Learnt,
 ) (object-at t) object.Post
 object-returns-5 t c =
-    let byte_at = c.before.before.before.before.before.before.byte_at in
-    reads_scalar _ _ _ _ (λ e. c.before.before.before.before.before.if1.false (byte_at.ensures ∙ e)) (λ e. c.before.before.before.before.if3.false (byte_at.ensures ∙ e)) (ap end_of (sym c.before.end.given.1) ∙ c.before.before.before.scalar.ensures)
+    let byte_at = c.byte_at-first in
+    reads_scalar _ _ _ _ (λ e. c.if-first-eq91.false (byte_at.ensures ∙ e)) (λ e. c.if-first-eq123.false (byte_at.ensures ∙ e)) (ap end_of (sym c.in-Whole.is) ∙ c.scalar.ensures)
 
-object-returns-6 : (t : ℕ) → object-lts.Need-returns-6 (
+object-returns-6 : (t : ℕ) → object-lts.Need-returns-in-Nothing (
   byte-at-reads.Asked,
   byte-at-reads.Learnt,
   list-below t,
@@ -525,8 +525,8 @@ object-returns-6 : (t : ℕ) → object-lts.Need-returns-6 (
   scalar-reads.Learnt,
 ) (object-at t) object.Post
 object-returns-6 t c =
-    let byte_at = c.before.before.before.before.before.byte_at in
-    reads_none _ _ _ (λ e. c.before.before.before.before.if1.false (byte_at.ensures ∙ e)) (λ e. c.before.before.before.if3.false (byte_at.ensures ∙ e)) (ap end_of (sym c.enum_told.given.1) ∙ c.before.before.scalar.ensures)
+    let byte_at = c.byte_at-first in
+    reads_none _ _ _ (λ e. c.if-first-eq91.false (byte_at.ensures ∙ e)) (λ e. c.if-first-eq123.false (byte_at.ensures ∙ e)) (ap end_of (sym c.in-Nothing.is) ∙ c.scalar.ensures)
 
 pair-key-requires : (t : ℕ) → pair-lts.Need-key-requires (
   key_reads.Asked,
@@ -538,7 +538,7 @@ pair-key-requires : (t : ℕ) → pair-lts.Need-key-requires (
 ) (pair-at t) pair.Post
 pair-key-requires t c κs = search rules
 
-pair-enum-told : (t : ℕ) → pair-lts.Need-enum-told (
+pair-enum-told : (t : ℕ) → pair-lts.Need-enum_told-1 (
   key_reads.Asked,
   key_reads.Learnt,
   byte-at-reads.Asked,
@@ -548,7 +548,7 @@ pair-enum-told : (t : ℕ) → pair-lts.Need-enum-told (
 ) (pair-at t) pair.Post
 pair-enum-told t c = search rules
 
-pair-enum-known-middle : (t : ℕ) → pair-lts.Need-enum-known-middle (
+pair-enum-known-middle : (t : ℕ) → pair-lts.Need-enum_known-middle (
   key_reads.Asked,
   key_reads.Learnt,
   byte-at-reads.Asked,
@@ -558,7 +558,7 @@ pair-enum-known-middle : (t : ℕ) → pair-lts.Need-enum-known-middle (
 ) (pair-at t) pair.Post
 pair-enum-known-middle t c = search rules
 
-pair-byte-at-requires : (t : ℕ) → pair-lts.Need-byte-at-requires (
+pair-byte-at-requires : (t : ℕ) → pair-lts.Need-byte_at-requires (
   key_reads.Asked,
   key_reads.Learnt,
   byte-at-reads.Asked,
@@ -568,7 +568,7 @@ pair-byte-at-requires : (t : ℕ) → pair-lts.Need-byte-at-requires (
 ) (pair-at t) pair.Post
 pair-byte-at-requires t c κs = search rules
 
-pair-returns : (t : ℕ) → pair-lts.Need-returns (
+pair-returns : (t : ℕ) → pair-lts.Need-returns-then-byte_at-ne61 (
   key_reads.Asked,
   key_reads.Learnt,
   byte-at-reads.Asked,
@@ -576,9 +576,9 @@ pair-returns : (t : ℕ) → pair-lts.Need-returns (
   node-below t,
   node.Post,
 ) (pair-at t) pair.Post
-pair-returns t c = pair_no_equals _ _ _ _ (ap end_of (sym c.before.before.before.middle.given.1) ∙ c.before.before.before.before.before.key.ensures) (λ e. c.if1.true (c.before.byte_at.ensures ∙ e))
+pair-returns t c = pair_no_equals _ _ _ _ (ap end_of (sym c.in-Whole.is) ∙ c.key.ensures) (λ e. c.if-byte_at-ne61.true (c.byte_at.ensures ∙ e))
 
-pair-add-node : (t : ℕ) → pair-lts.Need-overflow-add-node (
+pair-add-node : (t : ℕ) → pair-lts.Need-overflow_add-middle (
   key_reads.Asked,
   key_reads.Learnt,
   byte-at-reads.Asked,
@@ -586,7 +586,7 @@ pair-add-node : (t : ℕ) → pair-lts.Need-overflow-add-node (
   node-below t,
   node.Post,
 ) (pair-at t) pair.Post
-pair-add-node t c = omega (arith, inside c.before.before.before.before.before.before.before.args.s.now c.before.before.before.middle.given.0.0 60 (sym c.before.byte_at.ensures ∙ c.if1.false))
+pair-add-node t c = omega (arith, inside c.args.s.now c.in-Whole.middle 60 (sym c.byte_at.ensures ∙ c.if-byte_at-ne61.false))
 
 pair-node-requires : (t : ℕ) → pair-lts.Need-node-requires (
   key_reads.Asked,
@@ -596,9 +596,9 @@ pair-node-requires : (t : ℕ) → pair-lts.Need-node-requires (
   node-below t,
   node.Post,
 ) (pair-at t) pair.Post
-pair-node-requires t c κs = (omega (arith, c.before.before.before.before.before.before.before.requires.0), tt)
+pair-node-requires t c κs = (omega (arith, c.requires.0), tt)
 
-pair-enum-known-fault : (t : ℕ) → pair-lts.Need-enum-known-fault (
+pair-enum-known-fault : (t : ℕ) → pair-lts.Need-enum_known-fault (
   key_reads.Asked,
   key_reads.Learnt,
   byte-at-reads.Asked,
@@ -608,7 +608,7 @@ pair-enum-known-fault : (t : ℕ) → pair-lts.Need-enum-known-fault (
 ) (pair-at t) pair.Post
 pair-enum-known-fault t c = search rules
 
-pair-enum-known-end : (t : ℕ) → pair-lts.Need-enum-known-end (
+pair-enum-known-end : (t : ℕ) → pair-lts.Need-enum_known-end (
   key_reads.Asked,
   key_reads.Learnt,
   byte-at-reads.Asked,
@@ -618,7 +618,7 @@ pair-enum-known-end : (t : ℕ) → pair-lts.Need-enum-known-end (
 ) (pair-at t) pair.Post
 pair-enum-known-end t c = search rules
 
-pair-returns-2 : (t : ℕ) → pair-lts.Need-returns-2 (
+pair-returns-2 : (t : ℕ) → pair-lts.Need-returns-in-Nothing (
   key_reads.Asked,
   key_reads.Learnt,
   byte-at-reads.Asked,
@@ -626,9 +626,9 @@ pair-returns-2 : (t : ℕ) → pair-lts.Need-returns-2 (
   node-below t,
   node.Post,
 ) (pair-at t) pair.Post
-pair-returns-2 t c = pair_no_key _ _ _ (ap end_of (sym c.enum_told.given.1) ∙ c.before.before.key.ensures)
+pair-returns-2 t c = pair_no_key _ _ _ (ap end_of (sym c.in-Nothing.is) ∙ c.key.ensures)
 
-pair-returns-3 : (t : ℕ) → pair-lts.Need-returns-3 (
+pair-returns-3 : (t : ℕ) → pair-lts.Need-returns-in-Refused (
   key_reads.Asked,
   key_reads.Learnt,
   byte-at-reads.Asked,
@@ -636,9 +636,9 @@ pair-returns-3 : (t : ℕ) → pair-lts.Need-returns-3 (
   node-below t,
   node.Post,
 ) (pair-at t) pair.Post
-pair-returns-3 t c = pair_fails _ _ _ _ (ap end_of (sym c.before.before.before.before.before.before.before.middle.given.1) ∙ c.before.before.before.before.before.before.before.before.before.key.ensures) (sym c.before.before.before.before.before.byte_at.ensures ∙ c.before.before.before.before.if1.false) _ (rw c.before.fault.given.1 at c.before.before.before.node.ensures)
+pair-returns-3 t c = pair_fails _ _ _ _ (ap end_of (sym c.in-Whole.is) ∙ c.key.ensures) (sym c.byte_at.ensures ∙ c.if-byte_at-ne61.false) _ (rw c.in-Refused.is at c.node.ensures)
 
-pair-returns-4 : (t : ℕ) → pair-lts.Need-returns-4 (
+pair-returns-4 : (t : ℕ) → pair-lts.Need-returns-in-Ended (
   key_reads.Asked,
   key_reads.Learnt,
   byte-at-reads.Asked,
@@ -646,23 +646,23 @@ pair-returns-4 : (t : ℕ) → pair-lts.Need-returns-4 (
   node-below t,
   node.Post,
 ) (pair-at t) pair.Post
-pair-returns-4 t c = pair_ends _ _ _ _ (ap end_of (sym c.before.before.before.before.before.before.before.middle.given.1) ∙ c.before.before.before.before.before.before.before.before.before.key.ensures) (sym c.before.before.before.before.before.byte_at.ensures ∙ c.before.before.before.before.if1.false) _ _ _ (rw c.before.end.given.1 at c.before.before.before.node.ensures)
+pair-returns-4 t c = pair_ends _ _ _ _ (ap end_of (sym c.in-Whole.is) ∙ c.key.ensures) (sym c.byte_at.ensures ∙ c.if-byte_at-ne61.false) _ _ _ (rw c.in-Ended.is at c.node.ensures)
 
-abbrev pairs-Inv-loop : pairs-lts.invariant-loop
+abbrev pairs-Inv-loop : pairs-lts.invariant-loop-start
 pairs-Inv-loop s start depth close at₀ items₀ at items = Passed s (keyed close) depth start at items
 
-abbrev pairs-μ-loop : pairs-lts.decreases-loop
+abbrev pairs-μ-loop : pairs-lts.decreases-loop-start
 pairs-μ-loop s start depth close at₀ items₀ at items = length s - at
 
-pairs-loop-holds : (t : ℕ) → pairs-lts.Need-loop-init (
+pairs-loop-holds : (t : ℕ) → pairs-lts.Need-loop-start-init (
   byte-at-reads.Asked,
   byte-at-reads.Learnt,
   pair-below t,
   pair.Post,
 ) (pairs-at t) pairs.Post pairs-Inv-loop pairs-μ-loop
-pairs-loop-holds t c = passed_none _ (keyed c.before.args.close) _ c.before.args.start
+pairs-loop-holds t c = passed_none _ (keyed c.args.close) _ c.args.start
 
-pairs-byte-at-requires : (t : ℕ) → pairs-lts.Need-byte-at-requires (
+pairs-byte-at-requires : (t : ℕ) → pairs-lts.Need-byte_at-requires (
   byte-at-reads.Asked,
   byte-at-reads.Learnt,
   pair-below t,
@@ -670,25 +670,25 @@ pairs-byte-at-requires : (t : ℕ) → pairs-lts.Need-byte-at-requires (
 ) (pairs-at t) pairs.Post pairs-Inv-loop pairs-μ-loop
 pairs-byte-at-requires t c κs = search rules
 
-pairs-add-t12 : (t : ℕ) → pairs-lts.Need-overflow-add-t12 (
+pairs-add-t12 : (t : ℕ) → pairs-lts.Need-overflow_add-result (
   byte-at-reads.Asked,
   byte-at-reads.Learnt,
   pair-below t,
   pair.Post,
 ) (pairs-at t) pairs.Post pairs-Inv-loop pairs-μ-loop
 pairs-add-t12 t c =
-    let start' = c.before.before.before.before in
-    omega (arith, closing_inside start'.args.s.now (keyed start'.args.close) c.before.before.loop.at (sym c.before.byte_at.ensures ∙ c.if1.true ∙ sym start'.requires.1))
+    let start' = c in
+    omega (arith, closing_inside start'.args.s.now (keyed start'.args.close) c.loop-start.at (sym c.byte_at.ensures ∙ c.if-byte_at-close.true ∙ sym start'.requires.1))
 
-pairs-returns : (t : ℕ) → pairs-lts.Need-returns (
+pairs-returns : (t : ℕ) → pairs-lts.Need-returns-then-byte_at-close (
   byte-at-reads.Asked,
   byte-at-reads.Learnt,
   pair-below t,
   pair.Post,
 ) (pairs-at t) pairs.Post pairs-Inv-loop pairs-μ-loop
 pairs-returns t c =
-    let start' = c.before.before.before.before in
-    items_end _ (keyed start'.args.close) _ _ _ _ c.before.before.loop.invariant _ (keyed_at start'.args.close start'.args.start) (sym c.before.byte_at.ensures ∙ c.if1.true ∙ sym start'.requires.1)
+    let start' = c in
+    items_end _ (keyed start'.args.close) _ _ _ _ c.loop-start.invariant _ (keyed_at start'.args.close start'.args.start) (sym c.byte_at.ensures ∙ c.if-byte_at-close.true ∙ sym start'.requires.1)
 
 pairs-pair-requires : (t : ℕ) → pairs-lts.Need-pair-requires (
   byte-at-reads.Asked,
@@ -696,9 +696,9 @@ pairs-pair-requires : (t : ℕ) → pairs-lts.Need-pair-requires (
   pair-below t,
   pair.Post,
 ) (pairs-at t) pairs.Post pairs-Inv-loop pairs-μ-loop
-pairs-pair-requires t c κs = (omega (arith, c.before.before.before.before.requires.0), tt)
+pairs-pair-requires t c κs = (omega (arith, c.requires.0), tt)
 
-pairs-enum-known-fault : (t : ℕ) → pairs-lts.Need-enum-known-fault (
+pairs-enum-known-fault : (t : ℕ) → pairs-lts.Need-enum_known-fault (
   byte-at-reads.Asked,
   byte-at-reads.Learnt,
   pair-below t,
@@ -706,17 +706,17 @@ pairs-enum-known-fault : (t : ℕ) → pairs-lts.Need-enum-known-fault (
 ) (pairs-at t) pairs.Post pairs-Inv-loop pairs-μ-loop
 pairs-enum-known-fault t c = search rules
 
-pairs-returns-2 : (t : ℕ) → pairs-lts.Need-returns-2 (
+pairs-returns-2 : (t : ℕ) → pairs-lts.Need-returns-in-Failed (
   byte-at-reads.Asked,
   byte-at-reads.Learnt,
   pair-below t,
   pair.Post,
 ) (pairs-at t) pairs.Post pairs-Inv-loop pairs-μ-loop
 pairs-returns-2 t c =
-    let start' = c.before.before.before.before.before.before.before.before in
-    items_not _ (keyed start'.args.close) _ _ _ _ c.before.before.before.before.before.before.loop.invariant _ (paired_fails _ _ _ (keyed start'.args.close) (keyed_paired start'.args.close) (λ e. c.before.before.before.before.if1.false (c.before.before.before.before.before.byte_at.ensures ∙ e ∙ start'.requires.1)) _ (rw c.before.fault.given.1 at c.before.before.before.pair.ensures))
+    let start' = c in
+    items_not _ (keyed start'.args.close) _ _ _ _ c.loop-start.invariant _ (paired_fails _ _ _ (keyed start'.args.close) (keyed_paired start'.args.close) (λ e. c.if-byte_at-close.false (c.byte_at.ensures ∙ e ∙ start'.requires.1)) _ (rw c.in-Failed.is at c.pair.ensures))
 
-pairs-enum-known-end : (t : ℕ) → pairs-lts.Need-enum-known-end (
+pairs-enum-known-end : (t : ℕ) → pairs-lts.Need-enum_known-end (
   byte-at-reads.Asked,
   byte-at-reads.Learnt,
   pair-below t,
@@ -724,7 +724,7 @@ pairs-enum-known-end : (t : ℕ) → pairs-lts.Need-enum-known-end (
 ) (pairs-at t) pairs.Post pairs-Inv-loop pairs-μ-loop
 pairs-enum-known-end t c = search rules
 
-pairs-byte-at-requires-2 : (t : ℕ) → pairs-lts.Need-byte-at-requires-2 (
+pairs-byte-at-requires-2 : (t : ℕ) → pairs-lts.Need-byte_at-mark-requires (
   byte-at-reads.Asked,
   byte-at-reads.Learnt,
   pair-below t,
@@ -732,90 +732,90 @@ pairs-byte-at-requires-2 : (t : ℕ) → pairs-lts.Need-byte-at-requires-2 (
 ) (pairs-at t) pairs.Post pairs-Inv-loop pairs-μ-loop
 pairs-byte-at-requires-2 t c κs = search rules
 
-pairs-add-t15 : (t : ℕ) → pairs-lts.Need-overflow-add-t15 (
+pairs-add-t15 : (t : ℕ) → pairs-lts.Need-overflow_add-result-then-mark-close (
   byte-at-reads.Asked,
   byte-at-reads.Learnt,
   pair-below t,
   pair.Post,
 ) (pairs-at t) pairs.Post pairs-Inv-loop pairs-μ-loop
 pairs-add-t15 t c =
-    let start' = c.before.before.before.before.before.before.before.before.before.before in
-    omega (arith, closing_inside start'.args.s.now (keyed start'.args.close) c.before.before.before.end.given.0.1.0 (sym c.before.byte-at2.ensures ∙ c.if2.true ∙ sym start'.requires.1))
+    let start' = c in
+    omega (arith, closing_inside start'.args.s.now (keyed start'.args.close) c.in-Whole.end (sym c.byte_at-mark.ensures ∙ c.if-mark-close.true ∙ sym start'.requires.1))
 
-pairs-add-t16 : (t : ℕ) → pairs-lts.Need-overflow-add-t16 (
+pairs-add-t16 : (t : ℕ) → pairs-lts.Need-overflow_add-result-then-mark-close-2 (
   byte-at-reads.Asked,
   byte-at-reads.Learnt,
   pair-below t,
   pair.Post,
 ) (pairs-at t) pairs.Post pairs-Inv-loop pairs-μ-loop
 pairs-add-t16 t c =
-    let start' = c.before.before.before.before.before.before.before.before.before.before in
-    let turn = c.before.before.before.before.before.before.before.before in
-    let end = c.before.before.before.end in
-    omega (arith, items_few start'.args.s.now (keyed start'.args.close) start'.args.depth start'.args.start turn.loop.at turn.loop.items turn.loop.invariant end.given.0.1.0 (paired_ends _ _ _ (keyed start'.args.close) (keyed_paired start'.args.close) (λ e. c.before.before.before.before.before.before.if1.false (c.before.before.before.before.before.before.before.byte_at.ensures ∙ e ∙ start'.requires.1)) _ _ (rw end.given.1 at c.before.before.before.before.before.pair.ensures)))
+    let start' = c in
+    let turn = c in
+    let end = c.in-Whole in
+    omega (arith, items_few start'.args.s.now (keyed start'.args.close) start'.args.depth start'.args.start turn.loop-start.at turn.loop-start.items turn.loop-start.invariant end.end (paired_ends _ _ _ (keyed start'.args.close) (keyed_paired start'.args.close) (λ e. c.if-byte_at-close.false (c.byte_at.ensures ∙ e ∙ start'.requires.1)) _ _ (rw end.is at c.pair.ensures)))
 
-pairs-returns-3 : (t : ℕ) → pairs-lts.Need-returns-3 (
+pairs-returns-3 : (t : ℕ) → pairs-lts.Need-returns-then-mark-close (
   byte-at-reads.Asked,
   byte-at-reads.Learnt,
   pair-below t,
   pair.Post,
 ) (pairs-at t) pairs.Post pairs-Inv-loop pairs-μ-loop
 pairs-returns-3 t c =
-    let start' = c.before.before.before.before.before.before.before.before.before.before in
-    items_last _ (keyed start'.args.close) _ _ _ _ c.before.before.before.before.before.before.before.before.loop.invariant _ (paired_ends _ _ _ (keyed start'.args.close) (keyed_paired start'.args.close) (λ e. c.before.before.before.before.before.before.if1.false (c.before.before.before.before.before.before.before.byte_at.ensures ∙ e ∙ start'.requires.1)) _ _ (rw c.before.before.before.end.given.1 at c.before.before.before.before.before.pair.ensures)) _ 1 (keyed_at start'.args.close start'.args.start) (keyed_weight start'.args.close start'.args.s.now) (sym c.before.byte-at2.ensures ∙ c.if2.true ∙ sym start'.requires.1)
+    let start' = c in
+    items_last _ (keyed start'.args.close) _ _ _ _ c.loop-start.invariant _ (paired_ends _ _ _ (keyed start'.args.close) (keyed_paired start'.args.close) (λ e. c.if-byte_at-close.false (c.byte_at.ensures ∙ e ∙ start'.requires.1)) _ _ (rw c.in-Whole.is at c.pair.ensures)) _ 1 (keyed_at start'.args.close start'.args.start) (keyed_weight start'.args.close start'.args.s.now) (sym c.byte_at-mark.ensures ∙ c.if-mark-close.true ∙ sym start'.requires.1)
 
-pairs-returns-4 : (t : ℕ) → pairs-lts.Need-returns-4 (
+pairs-returns-4 : (t : ℕ) → pairs-lts.Need-returns-then-mark-ne59 (
   byte-at-reads.Asked,
   byte-at-reads.Learnt,
   pair-below t,
   pair.Post,
 ) (pairs-at t) pairs.Post pairs-Inv-loop pairs-μ-loop
 pairs-returns-4 t c =
-    let start' = c.before.before.before.before.before.before.before.before.before.before.before in
-    items_bad _ (keyed start'.args.close) _ _ _ _ c.before.before.before.before.before.before.before.before.before.loop.invariant _ (paired_ends _ _ _ (keyed start'.args.close) (keyed_paired start'.args.close) (λ e. c.before.before.before.before.before.before.before.if1.false (c.before.before.before.before.before.before.before.before.byte_at.ensures ∙ e ∙ start'.requires.1)) _ _ (rw c.before.before.before.before.end.given.1 at c.before.before.before.before.before.before.pair.ensures)) (λ e. c.before.if2.false (c.before.before.byte-at2.ensures ∙ e ∙ start'.requires.1)) (λ e. c.if3.true (c.before.before.byte-at2.ensures ∙ e))
+    let start' = c in
+    items_bad _ (keyed start'.args.close) _ _ _ _ c.loop-start.invariant _ (paired_ends _ _ _ (keyed start'.args.close) (keyed_paired start'.args.close) (λ e. c.if-byte_at-close.false (c.byte_at.ensures ∙ e ∙ start'.requires.1)) _ _ (rw c.in-Whole.is at c.pair.ensures)) (λ e. c.if-mark-close.false (c.byte_at-mark.ensures ∙ e ∙ start'.requires.1)) (λ e. c.if-mark-ne59.true (c.byte_at-mark.ensures ∙ e))
 
-pairs-add-at : (t : ℕ) → pairs-lts.Need-overflow-add-at (
+pairs-add-at : (t : ℕ) → pairs-lts.Need-overflow_add-at (
   byte-at-reads.Asked,
   byte-at-reads.Learnt,
   pair-below t,
   pair.Post,
 ) (pairs-at t) pairs.Post pairs-Inv-loop pairs-μ-loop
-pairs-add-at t c = omega (arith, inside c.before.before.before.before.before.before.before.before.before.before.before.args.s.now c.before.before.before.before.end.given.0.1.0 58 (sym c.before.before.byte-at2.ensures ∙ c.if3.false))
+pairs-add-at t c = omega (arith, inside c.args.s.now c.in-Whole.end 58 (sym c.byte_at-mark.ensures ∙ c.if-mark-ne59.false))
 
-pairs-add-items : (t : ℕ) → pairs-lts.Need-overflow-add-items (
+pairs-add-items : (t : ℕ) → pairs-lts.Need-overflow_add-items (
   byte-at-reads.Asked,
   byte-at-reads.Learnt,
   pair-below t,
   pair.Post,
 ) (pairs-at t) pairs.Post pairs-Inv-loop pairs-μ-loop
 pairs-add-items t c =
-    let start' = c.before.before.before.before.before.before.before.before.before.before.before in
-    let turn = c.before.before.before.before.before.before.before.before.before in
-    let end = c.before.before.before.before.end in
-    omega (arith, items_few start'.args.s.now (keyed start'.args.close) start'.args.depth start'.args.start turn.loop.at turn.loop.items turn.loop.invariant end.given.0.1.0 (paired_ends _ _ _ (keyed start'.args.close) (keyed_paired start'.args.close) (λ e. c.before.before.before.before.before.before.before.if1.false (c.before.before.before.before.before.before.before.before.byte_at.ensures ∙ e ∙ start'.requires.1)) _ _ (rw end.given.1 at c.before.before.before.before.before.before.pair.ensures)))
+    let start' = c in
+    let turn = c in
+    let end = c.in-Whole in
+    omega (arith, items_few start'.args.s.now (keyed start'.args.close) start'.args.depth start'.args.start turn.loop-start.at turn.loop-start.items turn.loop-start.invariant end.end (paired_ends _ _ _ (keyed start'.args.close) (keyed_paired start'.args.close) (λ e. c.if-byte_at-close.false (c.byte_at.ensures ∙ e ∙ start'.requires.1)) _ _ (rw end.is at c.pair.ensures)))
 
-pairs-loop-less : (t : ℕ) → pairs-lts.Need-loop-smaller (
+pairs-loop-less : (t : ℕ) → pairs-lts.Need-loop-start-smaller (
   byte-at-reads.Asked,
   byte-at-reads.Learnt,
   pair-below t,
   pair.Post,
 ) (pairs-at t) pairs.Post pairs-Inv-loop pairs-μ-loop
 pairs-loop-less t c =
-    let start' = c.before.before.before.before.before.before.before.before.before.before.before in
-    items_shorter _ (keyed start'.args.close) _ _ _ _ c.before.before.before.before.before.before.before.before.before.loop.invariant _ (paired_ends _ _ _ (keyed start'.args.close) (keyed_paired start'.args.close) (λ e. c.before.before.before.before.before.before.before.if1.false (c.before.before.before.before.before.before.before.before.byte_at.ensures ∙ e ∙ start'.requires.1)) _ _ (rw c.before.before.before.before.end.given.1 at c.before.before.before.before.before.before.pair.ensures)) (sym c.before.before.byte-at2.ensures ∙ c.if3.false)
+    let start' = c in
+    items_shorter _ (keyed start'.args.close) _ _ _ _ c.loop-start.invariant _ (paired_ends _ _ _ (keyed start'.args.close) (keyed_paired start'.args.close) (λ e. c.if-byte_at-close.false (c.byte_at.ensures ∙ e ∙ start'.requires.1)) _ _ (rw c.in-Whole.is at c.pair.ensures)) (sym c.byte_at-mark.ensures ∙ c.if-mark-ne59.false)
 
-pairs-loop-again : (t : ℕ) → pairs-lts.Need-loop-preserved (
+pairs-loop-again : (t : ℕ) → pairs-lts.Need-loop-start-preserved (
   byte-at-reads.Asked,
   byte-at-reads.Learnt,
   pair-below t,
   pair.Post,
 ) (pairs-at t) pairs.Post pairs-Inv-loop pairs-μ-loop
 pairs-loop-again t c =
-    let start' = c.before.before.before.before.before.before.before.before.before.before.before in
-    items_more _ (keyed start'.args.close) _ _ _ _ c.before.before.before.before.before.before.before.before.before.loop.invariant _ (paired_ends _ _ _ (keyed start'.args.close) (keyed_paired start'.args.close) (λ e. c.before.before.before.before.before.before.before.if1.false (c.before.before.before.before.before.before.before.before.byte_at.ensures ∙ e ∙ start'.requires.1)) _ _ (rw c.before.before.before.before.end.given.1 at c.before.before.before.before.before.before.pair.ensures)) 1 (keyed_weight start'.args.close start'.args.s.now) (omega arith) (sym c.before.before.byte-at2.ensures ∙ c.if3.false)
+    let start' = c in
+    items_more _ (keyed start'.args.close) _ _ _ _ c.loop-start.invariant _ (paired_ends _ _ _ (keyed start'.args.close) (keyed_paired start'.args.close) (λ e. c.if-byte_at-close.false (c.byte_at.ensures ∙ e ∙ start'.requires.1)) _ _ (rw c.in-Whole.is at c.pair.ensures)) 1 (keyed_weight start'.args.close start'.args.s.now) (omega arith) (sym c.byte_at-mark.ensures ∙ c.if-mark-ne59.false)
 
-pub +list-node-object-pair-pairs-spec : {M : Type 1} → statement M
-+list-node-object-pair-pairs-spec =
+pub +list_node_object_pair_pairs_spec : {M : Type 1} → statement M
++list_node_object_pair_pairs_spec =
     close μ-list μ-node μ-object μ-pair μ-pairs (λ t. list-lts.spec (
       byte-at-reads.Asked,
       byte-at-reads.Learnt,

@@ -10,18 +10,18 @@ use Rattle.yson.proofs.whole.Reads as whole-reads
 whole-requires : tie.Need-whole-requires
 whole-requires c κs = search rules
 
-enum-known-fault : tie.Need-enum-known-fault
-enum-known-fault c = search rules
+enum_known-fault : tie.Need-enum_known-fault
+enum_known-fault c = search rules
 
-enum-known-items : tie.Need-enum-known-items
-enum-known-items c = search rules
+enum_known-items : tie.Need-enum_known-items
+enum_known-items c = search rules
 
-returns : tie.Need-returns
-returns c = checks_broken c.before.before.before.before.before.args.s.now c.before.fault.given.0.0 (rw c.before.fault.given.1 at c.before.before.before.whole.ensures)
+returns : tie.Need-returns-in-Refused
+returns c = checks_broken c.args.s.now c.in-Refused.fault (rw c.in-Refused.is at c.whole.ensures)
 
-returns-2 : tie.Need-returns-2
-returns-2 c = checks_items c.before.before.before.before.before.args.s.now c.before.items.given.0.0 c.before.items.given.0.1.0 c.before.items.given.0.1.1.0 (rw c.before.items.given.1 at c.before.before.before.whole.ensures)
+returns-2 : tie.Need-returns-in-Ended
+returns-2 c = checks_items c.args.s.now c.in-Ended.field-0 c.in-Ended.field-1 c.in-Ended.items (rw c.in-Ended.is at c.whole.ensures)
 
-pub check-spec : {M : Type 1} → statement M
-check-spec =
-    tie.close (tie.spec whole-requires enum-known-fault enum-known-items returns returns-2)
+pub check_spec : {M : Type 1} → statement M
+check_spec =
+    tie.close (tie.spec whole-requires enum_known-fault enum_known-items returns returns-2)

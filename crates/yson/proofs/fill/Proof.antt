@@ -10,78 +10,78 @@ use Rattle.yson.proofs.fill.Lts as lts
 use Rattle.yson.proofs.pair.Reads as Pair-reads
 use Rattle.yson.proofs.put_item.Reads as put-item-reads
 
-abbrev invariant-loop : tie.invariant-loop
+abbrev invariant-loop : tie.invariant-loop-n
 invariant-loop s start items table₀ all at₀ n₀ table at n = Filling s start items at n table₀ table
 
-abbrev decreases-loop : tie.decreases-loop
+abbrev decreases-loop : tie.decreases-loop-n
 decreases-loop s start items table₀ all at₀ n₀ table at n = 4 * items - n
 
-mul-all : tie.Need-overflow-mul-all invariant-loop decreases-loop
-mul-all c = omega (arith, c.before.before.requires.fits)
+mul-all : tie.Need-overflow_mul-all invariant-loop decreases-loop
+mul-all c = omega (arith, c.requires.fits)
 
-loop-holds : tie.Need-loop-init invariant-loop decreases-loop
-loop-holds c = filling_none _ _ _ _ c.before.before.requires
+loop-holds : tie.Need-loop-n-init invariant-loop decreases-loop
+loop-holds c = filling_none _ _ _ _ c.requires
 
-sub-pair : tie.Need-overflow-sub-pair invariant-loop decreases-loop
+sub-pair : tie.Need-overflow_sub-pair invariant-loop decreases-loop
 sub-pair c = omega arith
 
 pair-requires : tie.Need-pair-requires invariant-loop decreases-loop
 pair-requires c κs = search rules
 
-enum_told : tie.Need-enum-told invariant-loop decreases-loop
+enum_told : tie.Need-enum_told-1 invariant-loop decreases-loop
 enum_told c = search rules
 
-same_length : tie.Need-same-length invariant-loop decreases-loop
+same_length : tie.Need-shape_of-table-in-Failed invariant-loop decreases-loop
 same_length c =
-    let start' = c.before.before.before.before.before.before.before in
-    let turn = c.before.before.before.before in
-    filling_length start'.args.s.now start'.args.start start'.args.items turn.loop.at turn.loop.n start'.args.table.now turn.loop.table turn.loop.invariant
+    let start' = c in
+    let turn = c in
+    filling_length start'.args.s.now start'.args.start start'.args.items turn.loop-n.at turn.loop-n.n start'.args.table.now turn.loop-n.table turn.loop-n.invariant
 
-returns : tie.Need-returns invariant-loop decreases-loop
+returns : tie.Need-returns-in-Failed invariant-loop decreases-loop
 returns c =
-    let start' = c.before.before.before.before.before.before.before in
-    let turn = c.before.before.before.before in
-    absurd (filling_fails start'.args.s.now start'.args.start start'.args.items turn.loop.at turn.loop.n start'.args.table.now turn.loop.table turn.loop.invariant c.before.before.before.loop-test.true c.enum_told.given.0.0 (rw c.enum_told.given.1 at c.before.before.pair.ensures))
+    let start' = c in
+    let turn = c in
+    absurd (filling_fails start'.args.s.now start'.args.start start'.args.items turn.loop-n.at turn.loop-n.n start'.args.table.now turn.loop-n.table turn.loop-n.invariant c.loop-n-test.true c.in-Failed.field-0 (rw c.in-Failed.is at c.pair.ensures))
 
-enum-known-middle : tie.Need-enum-known-middle invariant-loop decreases-loop
-enum-known-middle c = search rules
+enum_known-middle : tie.Need-enum_known-middle invariant-loop decreases-loop
+enum_known-middle c = search rules
 
-put-item-requires : tie.Need-put-item-requires invariant-loop decreases-loop
-put-item-requires c κs =
-    let start' = c.before.before.before.before.before.before.before.before.before in
-    let turn = c.before.before.before.before.before.before in
-    let pair = c.before.before.before.before.pair in
-    (omega (arith, filling_room start'.args.s.now start'.args.start start'.args.items turn.loop.at turn.loop.n start'.args.table.now turn.loop.table turn.loop.invariant c.before.before.before.before.before.loop-test.true c.before.before.middle.given.0.0 c.before.before.middle.given.0.1.0 (rw c.before.before.middle.given.1 at pair.ensures), filling_length start'.args.s.now start'.args.start start'.args.items turn.loop.at turn.loop.n start'.args.table.now turn.loop.table turn.loop.invariant), omega (arith, (rw c.before.before.middle.given.1 at pair.ensures).grows.1))
+put_item-requires : tie.Need-put_item-requires invariant-loop decreases-loop
+put_item-requires c κs =
+    let start' = c in
+    let turn = c in
+    let pair = c.pair in
+    (omega (arith, filling_room start'.args.s.now start'.args.start start'.args.items turn.loop-n.at turn.loop-n.n start'.args.table.now turn.loop-n.table turn.loop-n.invariant c.loop-n-test.true c.in-Whole.middle c.in-Whole.end (rw c.in-Whole.is at pair.ensures), filling_length start'.args.s.now start'.args.start start'.args.items turn.loop-n.at turn.loop-n.n start'.args.table.now turn.loop-n.table turn.loop-n.invariant), omega (arith, (rw c.in-Whole.is at pair.ensures).grows.1))
 
-add-n : tie.Need-overflow-add-n invariant-loop decreases-loop
+add-n : tie.Need-overflow_add-n invariant-loop decreases-loop
 add-n c =
-    let start' = c.before.before.before.before.before.before.before.before.before.before.before.before in
-    let turn = c.before.before.before.before.before.before.before.before.before in
-    let middle = c.before.before.before.before.before.middle in
-    omega (arith, filling_room start'.args.s.now start'.args.start start'.args.items turn.loop.at turn.loop.n start'.args.table.now turn.loop.table turn.loop.invariant c.before.before.before.before.before.before.before.before.loop-test.true middle.given.0.0 middle.given.0.1.0 (rw middle.given.1 at c.before.before.before.before.before.before.before.pair.ensures))
+    let start' = c in
+    let turn = c in
+    let middle = c.in-Whole in
+    omega (arith, filling_room start'.args.s.now start'.args.start start'.args.items turn.loop-n.at turn.loop-n.n start'.args.table.now turn.loop-n.table turn.loop-n.invariant c.loop-n-test.true middle.middle middle.end (rw middle.is at c.pair.ensures))
 
-add_at : tie.Need-overflow-add-at invariant-loop decreases-loop
-add_at c = omega (arith, (rw c.before.before.before.before.before.middle.given.1 at c.before.before.before.before.before.before.before.pair.ensures).grows.2)
+add_at : tie.Need-overflow_add-at invariant-loop decreases-loop
+add_at c = omega (arith, (rw c.in-Whole.is at c.pair.ensures).grows.2)
 
-loop-less : tie.Need-loop-smaller invariant-loop decreases-loop
-loop-less c = omega (arith, c.before.before.before.before.before.before.before.before.loop-test.true)
+loop-less : tie.Need-loop-n-smaller invariant-loop decreases-loop
+loop-less c = omega (arith, c.loop-n-test.true)
 
-loop-again : tie.Need-loop-preserved invariant-loop decreases-loop
+loop-again : tie.Need-loop-n-preserved invariant-loop decreases-loop
 loop-again c =
-    let start' = c.before.before.before.before.before.before.before.before.before.before.before.before in
-    let turn = c.before.before.before.before.before.before.before.before.before in
-    let middle = c.before.before.before.before.before.middle in
-    filling_more start'.args.s.now start'.args.start start'.args.items turn.loop.at turn.loop.n start'.args.table.now turn.loop.table turn.loop.invariant c.before.before.before.before.before.before.before.before.loop-test.true middle.given.0.0 middle.given.0.1.0 (rw middle.given.1 at c.before.before.before.before.before.before.before.pair.ensures) _ c.before.before.put_item.ensures
+    let start' = c in
+    let turn = c in
+    let middle = c.in-Whole in
+    filling_more start'.args.s.now start'.args.start start'.args.items turn.loop-n.at turn.loop-n.n start'.args.table.now turn.loop-n.table turn.loop-n.invariant c.loop-n-test.true middle.middle middle.end (rw middle.is at c.pair.ensures) _ c.put_item.ensures
 
-same-length-2 : tie.Need-same-length-2 invariant-loop decreases-loop
-same-length-2 c =
-    let start' = c.before.before.before.before in
-    filling_length start'.args.s.now start'.args.start start'.args.items c.before.loop.at c.before.loop.n start'.args.table.now c.before.loop.table c.before.loop.invariant
+same_length-2 : tie.Need-shape_of-table invariant-loop decreases-loop
+same_length-2 c =
+    let start' = c in
+    filling_length start'.args.s.now start'.args.start start'.args.items c.loop-n.at c.loop-n.n start'.args.table.now c.loop-n.table c.loop-n.invariant
 
-returns-2 : tie.Need-returns-2 invariant-loop decreases-loop
+returns-2 : tie.Need-returns invariant-loop decreases-loop
 returns-2 c =
-    let start' = c.before.before.before.before in
-    filling_end start'.args.s.now start'.args.start start'.args.items c.before.loop.at c.before.loop.n start'.args.table.now c.before.loop.table c.before.loop.invariant c.loop-test.false
+    let start' = c in
+    filling_end start'.args.s.now start'.args.start start'.args.items c.loop-n.at c.loop-n.n start'.args.table.now c.loop-n.table c.loop-n.invariant c.loop-n-test.false
 
 pub fill_spec : {M : Type 1} → statement M
 fill_spec =
@@ -96,11 +96,11 @@ fill_spec =
     enum_told
     same_length
     returns
-    enum-known-middle
-    put-item-requires
+    enum_known-middle
+    put_item-requires
     add-n
     add_at
     loop-less
     loop-again
-    same-length-2
+    same_length-2
     returns-2)

@@ -11,44 +11,44 @@ use Rattle.yson.proofs.whole.Reads as whole-reads
 whole-requires : tie.Need-whole-requires
 whole-requires c κs = search rules
 
-enum-known-fault : tie.Need-enum-known-fault
-enum-known-fault c = search rules
+enum_known-fault : tie.Need-enum_known-fault
+enum_known-fault c = search rules
 
-enum-known-start : tie.Need-enum-known-start
-enum-known-start c = search rules
+enum_known-start : tie.Need-enum_known-start
+enum_known-start c = search rules
 
-returns : tie.Need-returns
+returns : tie.Need-returns-then-given-items
 returns c =
-    let start = c.before.before.before.before.before.before.before in
-    lists_short start.args.s.now start.args.table.now c.before.before.start.given.0.0 c.before.before.start.given.0.1.0 c.before.before.start.given.0.1.1.0 (rw c.before.before.start.given.1 at c.before.before.before.before.whole.ensures) c.if1.true
+    let start = c in
+    lists_short start.args.s.now start.args.table.now c.in-Ended.field-0 c.in-Ended.start c.in-Ended.items (rw c.in-Ended.is at c.whole.ensures) c.if-given-items.true
 
 fill-requires : tie.Need-fill-requires
 fill-requires c κs =
-    let start = c.before.before.before.before.before.before.before.before in
-    let start' = c.before.before.before.start in
-    lists_ready start.args.s.now start.args.table.now start'.given.0.0 start'.given.0.1.0 start'.given.0.1.1.0 (rw start'.given.1 at c.before.before.before.before.before.whole.ensures) c.before.if1.false
+    let start = c in
+    let start' = c.in-Ended in
+    lists_ready start.args.s.now start.args.table.now start'.field-0 start'.start start'.items (rw start'.is at c.whole.ensures) c.if-given-items.false
 
-returns-2 : tie.Need-returns-2
+returns-2 : tie.Need-returns-in-Refused
 returns-2 c =
-    let start = c.before.before.before.before.before.before in
-    lists_broken start.args.s.now start.args.table.now c.before.fault.given.0.0 (rw c.before.fault.given.1 at c.before.before.before.whole.ensures)
+    let start = c in
+    lists_broken start.args.s.now start.args.table.now c.in-Refused.fault (rw c.in-Refused.is at c.whole.ensures)
 
-same_length : tie.Need-same-length
+same_length : tie.Need-shape_of-table
 same_length c = search rules
 
-returns-3 : tie.Need-returns-3
+returns-3 : tie.Need-returns-else-given-items
 returns-3 c =
-    let start = c.before.before.before.before.before.before.before.before.before.before.before in
-    let start' = c.before.before.before.before.before.before.start in
-    lists_items start.args.s.now start.args.table.now start'.given.0.0 start'.given.0.1.0 start'.given.0.1.1.0 (rw start'.given.1 at c.before.before.before.before.before.before.before.before.whole.ensures) c.before.before.before.before.if1.false _ c.before.before.fill.ensures
+    let start = c in
+    let start' = c.in-Ended in
+    lists_items start.args.s.now start.args.table.now start'.field-0 start'.start start'.items (rw start'.is at c.whole.ensures) c.if-given-items.false _ c.fill.ensures
 
-pub items-spec : {M : Type 1} → statement M
-items-spec =
+pub items_spec : {M : Type 1} → statement M
+items_spec =
     tie.close
     (tie.spec
     whole-requires
-    enum-known-fault
-    enum-known-start
+    enum_known-fault
+    enum_known-start
     returns
     fill-requires
     returns-2

@@ -10,21 +10,21 @@ use Rattle.yson.proofs.node.Reads as node-reads
 node-requires : tie.Need-node-requires
 node-requires c κs = search rules
 
-enum-known-fault : tie.Need-enum-known-fault
-enum-known-fault c = search rules
+enum_known-fault : tie.Need-enum_known-fault
+enum_known-fault c = search rules
 
-enum-known-end : tie.Need-enum-known-end
-enum-known-end c = search rules
+enum_known-end : tie.Need-enum_known-end
+enum_known-end c = search rules
 
-returns : tie.Need-returns
-returns c = whole_not _ _ (rw c.before.fault.given.1 at c.before.before.before.node.ensures)
+returns : tie.Need-returns-in-Refused
+returns c = whole_not _ _ (rw c.in-Refused.is at c.node.ensures)
 
-returns-2 : tie.Need-returns-2
-returns-2 c = whole_read _ _ _ _ (rw c.before.before.end.given.1 at c.before.before.before.before.node.ensures) c.if1.true
+returns-2 : tie.Need-returns-then-end-s
+returns-2 c = whole_read _ _ _ _ (rw c.in-Ended.is at c.node.ensures) c.if-end-s.true
 
-returns-3 : tie.Need-returns-3
-returns-3 c = whole_left _ _ _ _ (rw c.before.before.end.given.1 at c.before.before.before.before.node.ensures) c.if1.false
+returns-3 : tie.Need-returns-else-end-s
+returns-3 c = whole_left _ _ _ _ (rw c.in-Ended.is at c.node.ensures) c.if-end-s.false
 
-pub whole-spec : {M : Type 1} → statement M
-whole-spec =
-    tie.close (tie.spec node-requires enum-known-fault enum-known-end returns returns-2 returns-3)
+pub whole_spec : {M : Type 1} → statement M
+whole_spec =
+    tie.close (tie.spec node-requires enum_known-fault enum_known-end returns returns-2 returns-3)

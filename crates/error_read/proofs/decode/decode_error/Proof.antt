@@ -4,57 +4,57 @@ use borrow.Author.Rules.{rules}
 use Rattle.error_read.proofs.decode.decode_error.Statement.{statement}
 use Rattle.error_read.proofs.decode.decode_error.Tie as tie
 
-count-error-requires : tie.Need-count-error-requires
-count-error-requires c κs = search rules
+count_error-requires : tie.Need-count_error-requires
+count_error-requires c κs = search rules
 
-enum-known-refusal : tie.Need-enum-known-refusal
-enum-known-refusal c = search rules
+enum_known-refusal : tie.Need-enum_known-refusal
+enum_known-refusal c = search rules
 
-enum-known-count : tie.Need-enum-known-count
-enum-known-count c = search rules
+enum_known-count : tie.Need-enum_known-count
+enum_known-count c = search rules
 
-returns : tie.Need-returns
+returns : tie.Need-returns-then-errors-count
 returns c =
-    let start = c.before.before.before.before.before.before.before.before in
-    errors_short start.args.input.now start.args.errors.now start.args.attributes.now _ c.before.before.before.before.count-error.ensures _ _ c.before.before.count.given.1 c.if1.true
+    let start = c in
+    errors_short start.args.input.now start.args.errors.now start.args.attributes.now _ c.count_error.ensures _ _ c.in-Counted.is c.if-errors-count.true
 
-returns-2 : tie.Need-returns-2
+returns-2 : tie.Need-returns-then-attributes-rows
 returns-2 c =
-    let start = c.before.before.before.before.before.before.before.before.before in
-    attributes_short start.args.input.now start.args.errors.now start.args.attributes.now _ c.before.before.before.before.before.count-error.ensures _ _ c.before.before.before.count.given.1 c.before.if1.false c.if2.true
+    let start = c in
+    attributes_short start.args.input.now start.args.errors.now start.args.attributes.now _ c.count_error.ensures _ _ c.in-Counted.is c.if-errors-count.false c.if-attributes-rows.true
 
-fill-error-requires : tie.Need-fill-error-requires
-fill-error-requires c κs =
-    let start = c.before.before.before.before.before.before.before.before.before.before.before in
-    rooms start.args.input.now start.args.errors.now start.args.attributes.now _ c.before.before.before.before.before.before.before.count-error.ensures _ _ c.before.before.before.before.before.count.given.1 c.before.before.before.if1.false c.before.before.if2.false
+fill_error-requires : tie.Need-fill_error-requires
+fill_error-requires c κs =
+    let start = c in
+    rooms start.args.input.now start.args.errors.now start.args.attributes.now _ c.count_error.ensures _ _ c.in-Counted.is c.if-errors-count.false c.if-attributes-rows.false
 
-returns-3 : tie.Need-returns-3
+returns-3 : tie.Need-returns-in-Stopped
 returns-3 c =
-    let start = c.before.before.before.before.before.before.before in
-    refused_early start.args.input.now start.args.errors.now start.args.attributes.now _ c.before.before.before.count-error.ensures _ c.before.refusal.given.1
+    let start = c in
+    refused_early start.args.input.now start.args.errors.now start.args.attributes.now _ c.count_error.ensures _ c.in-Stopped.is
 
-same_length : tie.Need-same-length
+same_length : tie.Need-shape_of-errors
 same_length c = search rules
 
-same-length-2 : tie.Need-same-length-2
-same-length-2 c = search rules
+same_length-2 : tie.Need-shape_of-attributes
+same_length-2 c = search rules
 
-returns-4 : tie.Need-returns-4
+returns-4 : tie.Need-returns-else-attributes-rows
 returns-4 c =
-    let start = c.before.before.before.before.before.before.before.before.before.before.before.before.before.before.before.before in
-    decoded start.args.input.now start.args.errors.now start.args.attributes.now _ c.before.before.before.before.before.before.before.before.before.before.before.before.count-error.ensures _ _ c.before.before.before.before.before.before.before.before.before.before.count.given.1 c.before.before.before.before.before.before.before.before.if1.false c.before.before.before.before.before.before.before.if2.false _ _ c.before.before.before.before.fill-error.ensures
+    let start = c in
+    decoded start.args.input.now start.args.errors.now start.args.attributes.now _ c.count_error.ensures _ _ c.in-Counted.is c.if-errors-count.false c.if-attributes-rows.false _ _ c.fill_error.ensures
 
-pub decode-error-spec : {M : Type 1} → statement M
-decode-error-spec =
+pub decode_error_spec : {M : Type 1} → statement M
+decode_error_spec =
     tie.close
     (tie.spec
-    count-error-requires
-    enum-known-refusal
-    enum-known-count
+    count_error-requires
+    enum_known-refusal
+    enum_known-count
     returns
     returns-2
-    fill-error-requires
+    fill_error-requires
     returns-3
     same_length
-    same-length-2
+    same_length-2
     returns-4)

@@ -42,126 +42,126 @@ abbrev fill-inside-below : ℕ → In 3 fill-inside-kinds.ps
 fill-inside-below t =
     and 3 fill-inside-kinds.ps (falls 3 fill-inside-kinds.ps ◌<◌ μ-fill-inside t) fill-inside.Pre
 
-abbrev fill-held-Inv-loop : fill-held-lts.invariant-loop
-fill-held-Inv-loop input start end left depth index first errors₀ begin attributes₀ at₀ next₀ k₀ errors attributes at next k =
+abbrev fill_held-Inv-loop : fill-held-lts.invariant-loop-at
+fill_held-Inv-loop input start end left depth index first errors₀ begin attributes₀ at₀ next₀ k₀ errors attributes at next k =
     Holding left depth index first begin input start end errors₀ attributes₀ at next k errors attributes
 
-abbrev fill-held-μ-loop : fill-held-lts.decreases-loop
-fill-held-μ-loop input start end left depth index first errors₀ begin attributes₀ at₀ next₀ k₀ errors attributes at next k = end - at
+abbrev fill_held-μ-loop : fill-held-lts.decreases-loop-at
+fill_held-μ-loop input start end left depth index first errors₀ begin attributes₀ at₀ next₀ k₀ errors attributes at next k = end - at
 
-fill-held-loop-holds : (t : ℕ) → fill-held-lts.Need-loop-init (
+fill-held-loop-holds : (t : ℕ) → fill-held-lts.Need-loop-at-init (
   read-known-reads.Asked,
   read-known-reads.Learnt,
   fill-inside-below t,
   fill-inside.Post,
-) (fill-held-at t) fill-held.Post fill-held-Inv-loop fill-held-μ-loop
-fill-held-loop-holds t c = held_begin _ _ _ _ _ _ _ _ _ _ c.before.before.before.requires.1.0
+) (fill-held-at t) fill-held.Post fill_held-Inv-loop fill_held-μ-loop
+fill-held-loop-holds t c = held_begin _ _ _ _ _ _ _ _ _ _ c.requires.1.0
 
-fill-held-read-known-requires : (t : ℕ) → fill-held-lts.Need-read-known-requires (
+fill-held-read-known-requires : (t : ℕ) → fill-held-lts.Need-read_known-requires (
   read-known-reads.Asked,
   read-known-reads.Learnt,
   fill-inside-below t,
   fill-inside.Post,
-) (fill-held-at t) fill-held.Post fill-held-Inv-loop fill-held-μ-loop
+) (fill-held-at t) fill-held.Post fill_held-Inv-loop fill_held-μ-loop
 fill-held-read-known-requires t c κs = omega arith
 
-fill-held-enum-told : (t : ℕ) → fill-held-lts.Need-enum-told (
+fill-held-enum-told : (t : ℕ) → fill-held-lts.Need-enum_told-1 (
   read-known-reads.Asked,
   read-known-reads.Learnt,
   fill-inside-below t,
   fill-inside.Post,
-) (fill-held-at t) fill-held.Post fill-held-Inv-loop fill-held-μ-loop
+) (fill-held-at t) fill-held.Post fill_held-Inv-loop fill_held-μ-loop
 fill-held-enum-told t c = search rules
 
-fill-held-same-length : (t : ℕ) → fill-held-lts.Need-same-length (
+fill-held-same-length : (t : ℕ) → fill-held-lts.Need-shape_of-errors-in-Broken (
   read-known-reads.Asked,
   read-known-reads.Learnt,
   fill-inside-below t,
   fill-inside.Post,
-) (fill-held-at t) fill-held.Post fill-held-Inv-loop fill-held-μ-loop
-fill-held-same-length t c = c.before.before.before.before.loop.invariant.errors_left.same
+) (fill-held-at t) fill-held.Post fill_held-Inv-loop fill_held-μ-loop
+fill-held-same-length t c = c.loop-at.invariant.errors_left.same
 
-fill-held-same-length-2 : (t : ℕ) → fill-held-lts.Need-same-length-2 (
+fill-held-same-length-2 : (t : ℕ) → fill-held-lts.Need-shape_of-attributes-in-Broken (
   read-known-reads.Asked,
   read-known-reads.Learnt,
   fill-inside-below t,
   fill-inside.Post,
-) (fill-held-at t) fill-held.Post fill-held-Inv-loop fill-held-μ-loop
-fill-held-same-length-2 t c = c.before.before.before.before.loop.invariant.attributes_left.same
+) (fill-held-at t) fill-held.Post fill_held-Inv-loop fill_held-μ-loop
+fill-held-same-length-2 t c = c.loop-at.invariant.attributes_left.same
 
-fill-held-returns : (t : ℕ) → fill-held-lts.Need-returns (
+fill-held-returns : (t : ℕ) → fill-held-lts.Need-returns-in-Broken (
   read-known-reads.Asked,
   read-known-reads.Learnt,
   fill-inside-below t,
   fill-inside.Post,
-) (fill-held-at t) fill-held.Post fill-held-Inv-loop fill-held-μ-loop
-fill-held-returns t c = held_end c.before.before.before.before.loop.invariant (none_left _ _ _ _ _ c.before.before.read_Known.ensures c.enum_told.given.1)
+) (fill-held-at t) fill-held.Post fill_held-Inv-loop fill_held-μ-loop
+fill-held-returns t c = held_end c.loop-at.invariant (none_left _ _ _ _ _ c.read_known.ensures c.in-Broken.is)
 
-fill-held-enum-known-number : (t : ℕ) → fill-held-lts.Need-enum-known-number (
+fill-held-enum-known-number : (t : ℕ) → fill-held-lts.Need-enum_known-number (
   read-known-reads.Asked,
   read-known-reads.Learnt,
   fill-inside-below t,
   fill-inside.Post,
-) (fill-held-at t) fill-held.Post fill-held-Inv-loop fill-held-μ-loop
+) (fill-held-at t) fill-held.Post fill_held-Inv-loop fill_held-μ-loop
 fill-held-enum-known-number t c = search rules
 
-fill-held-fill-inside-requires : (t : ℕ) → fill-held-lts.Need-fill-inside-requires (
+fill-held-fill-inside-requires : (t : ℕ) → fill-held-lts.Need-fill_inside-filled-requires (
   read-known-reads.Asked,
   read-known-reads.Learnt,
   fill-inside-below t,
   fill-inside.Post,
-) (fill-held-at t) fill-held.Post fill-held-Inv-loop fill-held-μ-loop
+) (fill-held-at t) fill-held.Post fill_held-Inv-loop fill_held-μ-loop
 fill-held-fill-inside-requires t c κs =
-    let start' = c.before.before.before.before.before.before.before.before.before.before.before in
-    let read_Known = c.before.before.before.before.before.read_Known in
-    let number = c.before.before.before.number in
-    (omega (arith, start'.requires.0), (field_lies _ _ _ _ _ read_Known.ensures _ _ _ _ _ number.given.1 start'.requires.1.1, start'.requires.1.2, held_room c.before.before.before.before.before.before.before.loop.invariant _ (one_left _ _ _ _ _ read_Known.ensures _ _ _ _ _ number.given.1) start'.requires.1.3))
+    let start' = c in
+    let read_known = c.read_known in
+    let number = c.in-Whole in
+    (omega (arith, start'.requires.0), (field_lies _ _ _ _ _ read_known.ensures _ _ _ _ _ number.is start'.requires.1.1, start'.requires.1.2, held_room c.loop-at.invariant _ (one_left _ _ _ _ _ read_known.ensures _ _ _ _ _ number.is) start'.requires.1.3))
 
-fill-held-loop-less : (t : ℕ) → fill-held-lts.Need-loop-smaller (
+fill-held-loop-less : (t : ℕ) → fill-held-lts.Need-loop-at-smaller (
   read-known-reads.Asked,
   read-known-reads.Learnt,
   fill-inside-below t,
   fill-inside.Post,
-) (fill-held-at t) fill-held.Post fill-held-Inv-loop fill-held-μ-loop
-fill-held-loop-less t c = omega (arith, step _ _ _ _ _ c.before.before.before.before.before.before.before.before.before.before.read_Known.ensures _ _ _ _ _ c.before.before.before.before.before.before.before.before.number.given.1)
+) (fill-held-at t) fill-held.Post fill_held-Inv-loop fill_held-μ-loop
+fill-held-loop-less t c = omega (arith, step _ _ _ _ _ c.read_known.ensures _ _ _ _ _ c.in-Whole.is)
 
-fill-held-loop-again : (t : ℕ) → fill-held-lts.Need-loop-preserved (
+fill-held-loop-again : (t : ℕ) → fill-held-lts.Need-loop-at-preserved (
   read-known-reads.Asked,
   read-known-reads.Learnt,
   fill-inside-below t,
   fill-inside.Post,
-) (fill-held-at t) fill-held.Post fill-held-Inv-loop fill-held-μ-loop
+) (fill-held-at t) fill-held.Post fill_held-Inv-loop fill_held-μ-loop
 fill-held-loop-again t c =
-    let read_Known = c.before.before.before.before.before.before.before.before.before.before.read_Known in
-    let number = c.before.before.before.before.before.before.before.before.number in
-    let fill-inside' = c.before.before.before.before.fill-inside in
-    held_on c.before.before.before.before.before.before.before.before.before.before.before.before.loop.invariant _ (one_left _ _ _ _ _ read_Known.ensures _ _ _ _ _ number.given.1) (step _ _ _ _ _ read_Known.ensures _ _ _ _ _ number.given.1).1 _ _ fill-inside'.result fill-inside'.ensures
+    let read_known = c.read_known in
+    let number = c.in-Whole in
+    let fill-inside' = c.fill_inside-filled in
+    held_on c.loop-at.invariant _ (one_left _ _ _ _ _ read_known.ensures _ _ _ _ _ number.is) (step _ _ _ _ _ read_known.ensures _ _ _ _ _ number.is).1 _ _ fill-inside'.result fill-inside'.ensures
 
-fill-held-same-length-3 : (t : ℕ) → fill-held-lts.Need-same-length-3 (
+fill-held-same-length-3 : (t : ℕ) → fill-held-lts.Need-shape_of-errors (
   read-known-reads.Asked,
   read-known-reads.Learnt,
   fill-inside-below t,
   fill-inside.Post,
-) (fill-held-at t) fill-held.Post fill-held-Inv-loop fill-held-μ-loop
-fill-held-same-length-3 t c = c.before.loop.invariant.errors_left.same
+) (fill-held-at t) fill-held.Post fill_held-Inv-loop fill_held-μ-loop
+fill-held-same-length-3 t c = c.loop-at.invariant.errors_left.same
 
-fill-held-same-length-4 : (t : ℕ) → fill-held-lts.Need-same-length-4 (
+fill-held-same-length-4 : (t : ℕ) → fill-held-lts.Need-shape_of-attributes (
   read-known-reads.Asked,
   read-known-reads.Learnt,
   fill-inside-below t,
   fill-inside.Post,
-) (fill-held-at t) fill-held.Post fill-held-Inv-loop fill-held-μ-loop
-fill-held-same-length-4 t c = c.before.loop.invariant.attributes_left.same
+) (fill-held-at t) fill-held.Post fill_held-Inv-loop fill_held-μ-loop
+fill-held-same-length-4 t c = c.loop-at.invariant.attributes_left.same
 
-fill-held-returns-2 : (t : ℕ) → fill-held-lts.Need-returns-2 (
+fill-held-returns-2 : (t : ℕ) → fill-held-lts.Need-returns (
   read-known-reads.Asked,
   read-known-reads.Learnt,
   fill-inside-below t,
   fill-inside.Post,
-) (fill-held-at t) fill-held.Post fill-held-Inv-loop fill-held-μ-loop
-fill-held-returns-2 t c = held_end c.before.loop.invariant (fields_end _ _ _ _ c.loop-test.false)
+) (fill-held-at t) fill-held.Post fill_held-Inv-loop fill_held-μ-loop
+fill-held-returns-2 t c = held_end c.loop-at.invariant (fields_end _ _ _ _ c.loop-at-test.false)
 
-fill-inside-fill-dictionary-requires : (t : ℕ) → fill-inside-lts.Need-fill-dictionary-requires (
+fill-inside-fill-dictionary-requires : (t : ℕ) → fill-inside-lts.Need-fill_dictionary-row-requires (
   fill-dictionary-reads.Asked,
   fill-dictionary-reads.Learnt,
   scan-reads.Asked,
@@ -172,10 +172,10 @@ fill-inside-fill-dictionary-requires : (t : ℕ) → fill-inside-lts.Need-fill-d
   fill-held.Post,
 ) (fill-inside-at t) fill-inside.Post
 fill-inside-fill-dictionary-requires t c κs =
-    let start' = c.before.before.before.before.before in
-    (start'.requires.1.0.4, start'.requires.1.0.5, inside_words_fit _ _ _ _ _ start'.requires.1.0 _ start'.args.depth _ start'.args.next _ start'.args.errors.now _ start'.requires.1.2 c.before.if1.true)
+    let start' = c in
+    (start'.requires.1.0.4, start'.requires.1.0.5, inside_words_fit _ _ _ _ _ start'.requires.1.0 _ start'.args.depth _ start'.args.next _ start'.args.errors.now _ start'.requires.1.2 c.if-number-eq3.true)
 
-fill-inside-same-length : (t : ℕ) → fill-inside-lts.Need-same-length (
+fill-inside-same-length : (t : ℕ) → fill-inside-lts.Need-shape_of-attributes-then-number-eq3 (
   fill-dictionary-reads.Asked,
   fill-dictionary-reads.Learnt,
   scan-reads.Asked,
@@ -185,9 +185,9 @@ fill-inside-same-length : (t : ℕ) → fill-inside-lts.Need-same-length (
   fill-held-below t,
   fill-held.Post,
 ) (fill-inside-at t) fill-inside.Post
-fill-inside-same-length t c = c.before.before.fill-dictionary.auto.1.1.1.1.0
+fill-inside-same-length t c = c.fill_dictionary-row.auto.attributes
 
-fill-inside-returns : (t : ℕ) → fill-inside-lts.Need-returns (
+fill-inside-returns : (t : ℕ) → fill-inside-lts.Need-returns-then-number-eq3 (
   fill-dictionary-reads.Asked,
   fill-dictionary-reads.Learnt,
   scan-reads.Asked,
@@ -198,10 +198,10 @@ fill-inside-returns : (t : ℕ) → fill-inside-lts.Need-returns (
   fill-held.Post,
 ) (fill-inside-at t) fill-inside.Post
 fill-inside-returns t c =
-    let start' = c.before.before.before.before.before.before.before.before in
-    inside_stores _ _ _ _ _ start'.requires.1.0 _ _ _ _ _ _ _ start'.requires.1.2 c.before.before.before.before.if1.true _ _ c.before.before.fill-dictionary.ensures
+    let start' = c in
+    inside_stores _ _ _ _ _ start'.requires.1.0 _ _ _ _ _ _ _ start'.requires.1.2 c.if-number-eq3.true _ _ c.fill_dictionary-row.ensures
 
-fill-inside-returns-2 : (t : ℕ) → fill-inside-lts.Need-returns-2 (
+fill-inside-returns-2 : (t : ℕ) → fill-inside-lts.Need-returns-then-left-eq0 (
   fill-dictionary-reads.Asked,
   fill-dictionary-reads.Learnt,
   scan-reads.Asked,
@@ -211,9 +211,9 @@ fill-inside-returns-2 : (t : ℕ) → fill-inside-lts.Need-returns-2 (
   fill-held-below t,
   fill-held.Post,
 ) (fill-inside-at t) fill-inside.Post
-fill-inside-returns-2 t c = inside_no_deeper _ _ _ _ _ c.before.before.before.before.before.before.requires.1.0 _ _ _ _ _ _ _ c.before.if2.true c.if3.true
+fill-inside-returns-2 t c = inside_no_deeper _ _ _ _ _ c.requires.1.0 _ _ _ _ _ _ _ c.if-number-eq4.true c.if-left-eq0.true
 
-fill-inside-scan-requires : (t : ℕ) → fill-inside-lts.Need-scan-requires (
+fill-inside-scan-requires : (t : ℕ) → fill-inside-lts.Need-scan-own-requires (
   fill-dictionary-reads.Asked,
   fill-dictionary-reads.Learnt,
   scan-reads.Asked,
@@ -224,10 +224,10 @@ fill-inside-scan-requires : (t : ℕ) → fill-inside-lts.Need-scan-requires (
   fill-held.Post,
 ) (fill-inside-at t) fill-inside.Post
 fill-inside-scan-requires t c κs =
-    let start' = c.before.before.before.before.before.before in
+    let start' = c in
     (start'.requires.1.0.4, start'.requires.1.0.5)
 
-fill-inside-put-error-requires : (t : ℕ) → fill-inside-lts.Need-put-error-requires (
+fill-inside-put-error-requires : (t : ℕ) → fill-inside-lts.Need-put_error-requires (
   fill-dictionary-reads.Asked,
   fill-dictionary-reads.Learnt,
   scan-reads.Asked,
@@ -238,10 +238,10 @@ fill-inside-put-error-requires : (t : ℕ) → fill-inside-lts.Need-put-error-re
   fill-held.Post,
 ) (fill-inside-at t) fill-inside.Post
 fill-inside-put-error-requires t c κs =
-    let start' = c.before.before.before.before.before.before.before.before.before in
-    inside_entry_fits _ _ _ _ _ start'.requires.1.0 _ start'.args.depth start'.args.index _ _ _ _ start'.requires.1.2 c.before.before.before.before.if2.true c.before.before.before.if3.false
+    let start' = c in
+    inside_entry_fits _ _ _ _ _ start'.requires.1.0 _ start'.args.depth start'.args.index _ _ _ _ start'.requires.1.2 c.if-number-eq4.true c.if-left-eq0.false
 
-fill-inside-sub-fill-held : (t : ℕ) → fill-inside-lts.Need-overflow-sub-fill-held (
+fill-inside-sub-fill-held : (t : ℕ) → fill-inside-lts.Need-overflow_sub-left (
   fill-dictionary-reads.Asked,
   fill-dictionary-reads.Learnt,
   scan-reads.Asked,
@@ -253,7 +253,7 @@ fill-inside-sub-fill-held : (t : ℕ) → fill-inside-lts.Need-overflow-sub-fill
 ) (fill-inside-at t) fill-inside.Post
 fill-inside-sub-fill-held t c = omega arith
 
-fill-inside-add-fill-held : (t : ℕ) → fill-inside-lts.Need-overflow-add-fill-held (
+fill-inside-add-fill-held : (t : ℕ) → fill-inside-lts.Need-overflow_add-depth (
   fill-dictionary-reads.Asked,
   fill-dictionary-reads.Learnt,
   scan-reads.Asked,
@@ -265,7 +265,7 @@ fill-inside-add-fill-held : (t : ℕ) → fill-inside-lts.Need-overflow-add-fill
 ) (fill-inside-at t) fill-inside.Post
 fill-inside-add-fill-held t c = omega arith
 
-fill-inside-add-fill-held-2 : (t : ℕ) → fill-inside-lts.Need-overflow-add-fill-held-2 (
+fill-inside-add-fill-held-2 : (t : ℕ) → fill-inside-lts.Need-overflow_add-next (
   fill-dictionary-reads.Asked,
   fill-dictionary-reads.Learnt,
   scan-reads.Asked,
@@ -276,10 +276,10 @@ fill-inside-add-fill-held-2 : (t : ℕ) → fill-inside-lts.Need-overflow-add-fi
   fill-held.Post,
 ) (fill-inside-at t) fill-inside.Post
 fill-inside-add-fill-held-2 t c =
-    let start' = c.before.before.before.before.before.before.before.before.before.before.before.before in
-    omega (arith, inside_entry_fits _ _ _ _ _ start'.requires.1.0 _ start'.args.depth start'.args.index _ _ _ _ start'.requires.1.2 c.before.before.before.before.before.before.before.if2.true c.before.before.before.before.before.before.if3.false)
+    let start' = c in
+    omega (arith, inside_entry_fits _ _ _ _ _ start'.requires.1.0 _ start'.args.depth start'.args.index _ _ _ _ start'.requires.1.2 c.if-number-eq4.true c.if-left-eq0.false)
 
-fill-inside-fill-held-requires : (t : ℕ) → fill-inside-lts.Need-fill-held-requires (
+fill-inside-fill-held-requires : (t : ℕ) → fill-inside-lts.Need-fill_held-requires (
   fill-dictionary-reads.Asked,
   fill-dictionary-reads.Learnt,
   scan-reads.Asked,
@@ -290,10 +290,10 @@ fill-inside-fill-held-requires : (t : ℕ) → fill-inside-lts.Need-fill-held-re
   fill-held.Post,
 ) (fill-inside-at t) fill-inside.Post
 fill-inside-fill-held-requires t c κs =
-    let start' = c.before.before.before.before.before.before.before.before.before.before.before.before.before.before in
-    (omega (arith, start'.requires.0), (start'.requires.1.0.4, start'.requires.1.0.5, omega (arith, start'.requires.1.1), inside_room _ _ _ _ _ start'.requires.1.0 _ _ start'.args.index _ _ _ _ start'.requires.1.2 c.before.before.before.before.before.before.before.before.before.if2.true c.before.before.before.before.before.before.before.before.if3.false _ c.before.before.before.before.before.before.before.scan.ensures _ c.before.before.before.before.put-error.ensures))
+    let start' = c in
+    (omega (arith, start'.requires.0), (start'.requires.1.0.4, start'.requires.1.0.5, omega (arith, start'.requires.1.1), inside_room _ _ _ _ _ start'.requires.1.0 _ _ start'.args.index _ _ _ _ start'.requires.1.2 c.if-number-eq4.true c.if-left-eq0.false _ c.scan-own.ensures _ c.put_error.ensures))
 
-fill-inside-same-length-2 : (t : ℕ) → fill-inside-lts.Need-same-length-2 (
+fill-inside-same-length-2 : (t : ℕ) → fill-inside-lts.Need-shape_of-errors-then-number-eq4 (
   fill-dictionary-reads.Asked,
   fill-dictionary-reads.Learnt,
   scan-reads.Asked,
@@ -303,9 +303,9 @@ fill-inside-same-length-2 : (t : ℕ) → fill-inside-lts.Need-same-length-2 (
   fill-held-below t,
   fill-held.Post,
 ) (fill-inside-at t) fill-inside.Post
-fill-inside-same-length-2 t c = c.before.before.before.before.fill-held.auto.1.1.1.1.1.1.1.0 ∙ c.before.before.before.before.before.before.before.before.before.put-error.auto.0
+fill-inside-same-length-2 t c = c.fill_held.auto.errors ∙ c.put_error.auto.errors
 
-fill-inside-same-length-3 : (t : ℕ) → fill-inside-lts.Need-same-length-3 (
+fill-inside-same-length-3 : (t : ℕ) → fill-inside-lts.Need-shape_of-attributes-then-number-eq4 (
   fill-dictionary-reads.Asked,
   fill-dictionary-reads.Learnt,
   scan-reads.Asked,
@@ -315,9 +315,9 @@ fill-inside-same-length-3 : (t : ℕ) → fill-inside-lts.Need-same-length-3 (
   fill-held-below t,
   fill-held.Post,
 ) (fill-inside-at t) fill-inside.Post
-fill-inside-same-length-3 t c = c.before.before.before.before.fill-held.auto.1.1.1.1.1.1.1.1.1.0
+fill-inside-same-length-3 t c = c.fill_held.auto.attributes
 
-fill-inside-returns-3 : (t : ℕ) → fill-inside-lts.Need-returns-3 (
+fill-inside-returns-3 : (t : ℕ) → fill-inside-lts.Need-returns-then-number-eq4 (
   fill-dictionary-reads.Asked,
   fill-dictionary-reads.Learnt,
   scan-reads.Asked,
@@ -328,11 +328,11 @@ fill-inside-returns-3 : (t : ℕ) → fill-inside-lts.Need-returns-3 (
   fill-held.Post,
 ) (fill-inside-at t) fill-inside.Post
 fill-inside-returns-3 t c =
-    let start' = c.before.before.before.before.before.before.before.before.before.before.before.before.before.before.before.before.before.before.before in
-    let fill-held' = c.before.before.before.before.fill-held in
-    inside_fills _ _ _ _ _ start'.requires.1.0 _ _ _ _ _ _ _ start'.requires.1.2 c.before.before.before.before.before.before.before.before.before.before.before.before.before.before.if2.true c.before.before.before.before.before.before.before.before.before.before.before.before.before.if3.false _ c.before.before.before.before.before.before.before.before.before.before.before.before.scan.ensures _ c.before.before.before.before.before.before.before.before.before.put-error.ensures _ _ fill-held'.result fill-held'.ensures
+    let start' = c in
+    let fill-held' = c.fill_held in
+    inside_fills _ _ _ _ _ start'.requires.1.0 _ _ _ _ _ _ _ start'.requires.1.2 c.if-number-eq4.true c.if-left-eq0.false _ c.scan-own.ensures _ c.put_error.ensures _ _ fill-held'.result fill-held'.ensures
 
-fill-inside-returns-4 : (t : ℕ) → fill-inside-lts.Need-returns-4 (
+fill-inside-returns-4 : (t : ℕ) → fill-inside-lts.Need-returns (
   fill-dictionary-reads.Asked,
   fill-dictionary-reads.Learnt,
   scan-reads.Asked,
@@ -342,10 +342,10 @@ fill-inside-returns-4 : (t : ℕ) → fill-inside-lts.Need-returns-4 (
   fill-held-below t,
   fill-held.Post,
 ) (fill-inside-at t) fill-inside.Post
-fill-inside-returns-4 t c = inside_skips _ _ _ _ _ c.before.before.before.before.before.requires.1.0 _ _ _ _ _ _ _ c.before.if1.false c.if2.false
+fill-inside-returns-4 t c = inside_skips _ _ _ _ _ c.requires.1.0 _ _ _ _ _ _ _ c.if-number-eq3.false c.if-number-eq4.false
 
-pub +fill-held-fill-inside-spec : {M : Type 1} → statement M
-+fill-held-fill-inside-spec = close μ-fill-held μ-fill-inside (λ t. fill-held-lts.spec (
+pub +fill_held_fill_inside_spec : {M : Type 1} → statement M
++fill_held_fill_inside_spec = close μ-fill-held μ-fill-inside (λ t. fill-held-lts.spec (
   read-known-reads.Asked,
   read-known-reads.Learnt,
   fill-inside-below t,
@@ -353,8 +353,8 @@ pub +fill-held-fill-inside-spec : {M : Type 1} → statement M
 )
     (fill-held-at t)
     fill-held.Post
-    fill-held-Inv-loop
-    fill-held-μ-loop
+    fill_held-Inv-loop
+    fill_held-μ-loop
     (fill-held-loop-holds t)
     (fill-held-read-known-requires t)
     (fill-held-enum-told t)

@@ -9,77 +9,77 @@ use Rattle.error_tree.proofs.MessageLaws.{fields_end}
 use Rattle.error_read.proofs.fill.fill_dictionary.Statement.{statement}
 use Rattle.error_read.proofs.fill.fill_dictionary.Tie as tie
 
-abbrev invariant-loop : tie.invariant-loop
+abbrev invariant-loop : tie.invariant-loop-at
 invariant-loop input start end index attributes₀ first at₀ k₀ attributes at k =
     (at ≤ end) × Storing attributes₀ attributes first k (dictionary_words index input (fields dictionary_fields input start end)) (dictionary_words index input (fields dictionary_fields input at end))
 
-abbrev decreases-loop : tie.decreases-loop
+abbrev decreases-loop : tie.decreases-loop-at
 decreases-loop input start end index attributes₀ first at₀ k₀ attributes at k = end - at
 
-loop-holds : tie.Need-loop-init invariant-loop decreases-loop
-loop-holds c = (c.before.before.requires.0, storing _ _ _)
+loop-holds : tie.Need-loop-at-init invariant-loop decreases-loop
+loop-holds c = (c.requires.0, storing _ _ _)
 
-read-known-requires : tie.Need-read-known-requires invariant-loop decreases-loop
-read-known-requires c κs = omega arith
+read_known-requires : tie.Need-read_known-requires invariant-loop decreases-loop
+read_known-requires c κs = omega arith
 
-enum_told : tie.Need-enum-told invariant-loop decreases-loop
+enum_told : tie.Need-enum_told-1 invariant-loop decreases-loop
 enum_told c = search rules
 
-same_length : tie.Need-same-length invariant-loop decreases-loop
-same_length c = c.before.before.before.before.loop.invariant.1.same
+same_length : tie.Need-shape_of-attributes-in-Broken invariant-loop decreases-loop
+same_length c = c.loop-at.invariant.1.same
 
-returns : tie.Need-returns invariant-loop decreases-loop
-returns c = stored_all c.before.before.before.before.loop.invariant.1 (dictionary_done _ _ _ _ (none_left _ _ _ _ _ c.before.before.read_Known.ensures c.enum_told.given.1))
+returns : tie.Need-returns-in-Broken invariant-loop decreases-loop
+returns c = stored_all c.loop-at.invariant.1 (dictionary_done _ _ _ _ (none_left _ _ _ _ _ c.read_known.ensures c.in-Broken.is))
 
-enum-known-number : tie.Need-enum-known-number invariant-loop decreases-loop
-enum-known-number c = search rules
+enum_known-number : tie.Need-enum_known-number invariant-loop decreases-loop
+enum_known-number c = search rules
 
-fill-entry-requires : tie.Need-fill-entry-requires invariant-loop decreases-loop
-fill-entry-requires c κs =
-    let start' = c.before.before.before.before.before.before.before.before.before in
-    let turn = c.before.before.before.before.before.before in
-    let read_Known = c.before.before.before.before.read_Known in
+fill_entry-requires : tie.Need-fill_entry-k-requires invariant-loop decreases-loop
+fill_entry-requires c κs =
+    let start' = c in
+    let turn = c in
+    let read_known = c.read_known in
     let s = start'.args.input.now in
     let end = start'.args.end in
-    let at = turn.loop.at in
-    let stop = c.before.before.number.given.0.1.1.1.1.0 in
-    (field_lies _ _ _ _ _ read_Known.ensures _ _ _ _ _ c.before.before.number.given.1 start'.requires.1, has_room turn.loop.invariant.1 (entry_words start'.args.index s at) (dictionary_words start'.args.index s (fields dictionary_fields s stop end)) (dictionary_next start'.args.index s at end stop (one_left _ _ _ _ _ read_Known.ensures _ _ _ _ _ c.before.before.number.given.1)) start'.requires.2)
+    let at = turn.loop-at.at in
+    let stop = c.in-Whole.stop in
+    (field_lies _ _ _ _ _ read_known.ensures _ _ _ _ _ c.in-Whole.is start'.requires.1, has_room turn.loop-at.invariant.1 (entry_words start'.args.index s at) (dictionary_words start'.args.index s (fields dictionary_fields s stop end)) (dictionary_next start'.args.index s at end stop (one_left _ _ _ _ _ read_known.ensures _ _ _ _ _ c.in-Whole.is)) start'.requires.2)
 
-loop-less : tie.Need-loop-smaller invariant-loop decreases-loop
-loop-less c = omega (arith, step _ _ _ _ _ c.before.before.before.before.before.before.before.read_Known.ensures _ _ _ _ _ c.before.before.before.before.before.number.given.1)
+loop-less : tie.Need-loop-at-smaller invariant-loop decreases-loop
+loop-less c = omega (arith, step _ _ _ _ _ c.read_known.ensures _ _ _ _ _ c.in-Whole.is)
 
-loop-again : tie.Need-loop-preserved invariant-loop decreases-loop
+loop-again : tie.Need-loop-at-preserved invariant-loop decreases-loop
 loop-again c =
-    let start' = c.before.before.before.before.before.before.before.before.before.before.before.before in
-    let turn = c.before.before.before.before.before.before.before.before.before in
-    let read_Known = c.before.before.before.before.before.before.before.read_Known in
-    let number = c.before.before.before.before.before.number in
+    let start' = c in
+    let turn = c in
+    let read_known = c.read_known in
+    let number = c.in-Whole in
     let s = start'.args.input.now in
     let end = start'.args.end in
-    let at = turn.loop.at in
-    let stop = number.given.0.1.1.1.1.0 in
-    ((step _ _ _ _ _ read_Known.ensures _ _ _ _ _ number.given.1).1, stored_on turn.loop.invariant.1 (entry_words start'.args.index s at) (dictionary_words start'.args.index s (fields dictionary_fields s stop end)) (dictionary_next start'.args.index s at end stop (one_left _ _ _ _ _ read_Known.ensures _ _ _ _ _ number.given.1)) _ _ c.before.before.fill-entry.ensures.0 c.before.before.fill-entry.ensures.1)
+    let at = turn.loop-at.at in
+    let stop = number.stop in
+    ((step _ _ _ _ _ read_known.ensures _ _ _ _ _ number.is).1, stored_on turn.loop-at.invariant.1 (entry_words start'.args.index s at) (dictionary_words start'.args.index s (fields dictionary_fields s stop end)) (dictionary_next start'.args.index s at end stop (one_left _ _ _ _ _ read_known.ensures _ _ _ _ _ number.is)) _ _ c.fill_entry-k.ensures.0 c.fill_entry-k.ensures.1)
 
-same-length-2 : tie.Need-same-length-2 invariant-loop decreases-loop
-same-length-2 c = c.before.loop.invariant.1.same
+same_length-2 : tie.Need-shape_of-attributes invariant-loop decreases-loop
+same_length-2 c = c.loop-at.invariant.1.same
 
-returns-2 : tie.Need-returns-2 invariant-loop decreases-loop
-returns-2 c = stored_all c.before.loop.invariant.1 (dictionary_done _ _ _ _ (fields_end _ _ _ _ c.loop-test.false))
+returns-2 : tie.Need-returns invariant-loop decreases-loop
+returns-2 c = stored_all c.loop-at.invariant.1 (dictionary_done _ _ _ _ (fields_end _ _ _ _ c.loop-at-test.false))
 
-pub fill-dictionary-spec : {M : Type 1} → statement M
-fill-dictionary-spec =
+pub fill_dictionary_spec : {M : Type 1} → statement M
+fill_dictionary_spec =
     tie.close
     (tie.spec
     invariant-loop
     decreases-loop
     loop-holds
-    read-known-requires
+    read_known-requires
     enum_told
     same_length
     returns
-    enum-known-number
-    fill-entry-requires
+    enum_known-number
+    fill_entry-requires
     loop-less
     loop-again
-    same-length-2
+    same_length-2
     returns-2)

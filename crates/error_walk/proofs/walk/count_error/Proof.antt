@@ -5,25 +5,25 @@ use borrow.Author.Rules.{rules}
 use Rattle.error_walk.proofs.walk.count_error.Statement.{statement}
 use Rattle.error_walk.proofs.walk.count_error.Tie as tie
 
-walk-error-requires : tie.Need-walk-error-requires
-walk-error-requires c κs = search rules
+walk_error-requires : tie.Need-walk_error-requires
+walk_error-requires c κs = search rules
 
-enum-known-refusal : tie.Need-enum-known-refusal
-enum-known-refusal c = search rules
+enum_known-refusal : tie.Need-enum_known-refusal
+enum_known-refusal c = search rules
 
-enum-known-inner : tie.Need-enum-known-inner
-enum-known-inner c = search rules
+enum_known-inner : tie.Need-enum_known-inner
+enum_known-inner c = search rules
 
-add-t8 : tie.Need-overflow-add-t8
-add-t8 c = omega (arith, count_fits c.before.before.before.before.before.args.input.now _ c.before.before.before.walk-error.ensures _ _ c.before.inner.given.1)
+add-t8 : tie.Need-overflow_add-result
+add-t8 c = omega (arith, count_fits c.args.input.now _ c.walk_error.ensures _ _ c.in-Counted.is)
 
-returns : tie.Need-returns
-returns c = all_stopped c.before.before.before.before.before.args.input.now _ c.before.before.before.walk-error.ensures _ c.before.refusal.given.1
+returns : tie.Need-returns-in-Stopped
+returns c = all_stopped c.args.input.now _ c.walk_error.ensures _ c.in-Stopped.is
 
-returns-2 : tie.Need-returns-2
-returns-2 c = all_counted c.before.before.before.before.before.args.input.now _ c.before.before.before.walk-error.ensures _ _ c.before.inner.given.1
+returns-2 : tie.Need-returns-in-Counted
+returns-2 c = all_counted c.args.input.now _ c.walk_error.ensures _ _ c.in-Counted.is
 
-pub count-error-spec : {M : Type 1} → statement M
-count-error-spec =
+pub count_error_spec : {M : Type 1} → statement M
+count_error_spec =
     tie.close
-    (tie.spec walk-error-requires enum-known-refusal enum-known-inner add-t8 returns returns-2)
+    (tie.spec walk_error-requires enum_known-refusal enum_known-inner add-t8 returns returns-2)

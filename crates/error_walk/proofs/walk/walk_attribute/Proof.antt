@@ -11,47 +11,47 @@ use Rattle.error_walk.proofs.WalkLaws.{Left, begin, done, broken, goes, ahead, p
 use Rattle.error_walk.proofs.walk.walk_attribute.Statement.{statement}
 use Rattle.error_walk.proofs.walk.walk_attribute.Tie as tie
 
-abbrev invariant-loop : tie.invariant-loop
+abbrev invariant-loop : tie.invariant-loop-at
 invariant-loop input start end at₀ at = Left nothing no no attribute_fields input start end at 0 0
 
-abbrev decreases-loop : tie.decreases-loop
+abbrev decreases-loop : tie.decreases-loop-at
 decreases-loop input start end at₀ at = end - at
 
-loop-holds : tie.Need-loop-init invariant-loop decreases-loop
-loop-holds c = begin _ _ _ _ _ _ _ c.before.requires.0
+loop-holds : tie.Need-loop-at-init invariant-loop decreases-loop
+loop-holds c = begin _ _ _ _ _ _ _ c.requires.0
 
-read-known-requires : tie.Need-read-known-requires invariant-loop decreases-loop
-read-known-requires c κs = omega arith
+read_known-requires : tie.Need-read_known-requires invariant-loop decreases-loop
+read_known-requires c κs = omega arith
 
-enum_told : tie.Need-enum-told invariant-loop decreases-loop
+enum_told : tie.Need-enum_told-1 invariant-loop decreases-loop
 enum_told c = search rules
 
-returns : tie.Need-returns invariant-loop decreases-loop
-returns c = broken c.before.before.before.before.loop.invariant c.before.before.before.loop-test.true _ c.before.before.read_Known.ensures c.enum_told.given.1
+returns : tie.Need-returns-in-Broken invariant-loop decreases-loop
+returns c = broken c.loop-at.invariant c.loop-at-test.true _ c.read_known.ensures c.in-Broken.is
 
-enum-known-stop : tie.Need-enum-known-stop invariant-loop decreases-loop
-enum-known-stop c = search rules
+enum_known-stop : tie.Need-enum_known-stop invariant-loop decreases-loop
+enum_known-stop c = search rules
 
-loop-less : tie.Need-loop-smaller invariant-loop decreases-loop
-loop-less c = omega (arith, ahead c.before.before.before.before.before.loop.invariant c.before.before.before.before.loop-test.true _ c.before.before.before.read_Known.ensures _ _ _ _ _ c.before.stop.given.1)
+loop-less : tie.Need-loop-at-smaller invariant-loop decreases-loop
+loop-less c = omega (arith, ahead c.loop-at.invariant c.loop-at-test.true _ c.read_known.ensures _ _ _ _ _ c.in-Whole.is)
 
-loop-again : tie.Need-loop-preserved invariant-loop decreases-loop
-loop-again c = goes c.before.before.before.before.before.loop.invariant c.before.before.before.before.loop-test.true _ c.before.before.before.read_Known.ensures _ _ _ _ _ c.before.stop.given.1 (Counted 0 0) (passes_by _ _) 0 0 refl
+loop-again : tie.Need-loop-at-preserved invariant-loop decreases-loop
+loop-again c = goes c.loop-at.invariant c.loop-at-test.true _ c.read_known.ensures _ _ _ _ _ c.in-Whole.is (Counted 0 0) (passes_by _ _) 0 0 refl
 
-returns-2 : tie.Need-returns-2 invariant-loop decreases-loop
-returns-2 c = done c.before.loop.invariant c.loop-test.false
+returns-2 : tie.Need-returns invariant-loop decreases-loop
+returns-2 c = done c.loop-at.invariant c.loop-at-test.false
 
-pub walk-attribute-spec : {M : Type 1} → statement M
-walk-attribute-spec =
+pub walk_attribute_spec : {M : Type 1} → statement M
+walk_attribute_spec =
     tie.close
     (tie.spec
     invariant-loop
     decreases-loop
     loop-holds
-    read-known-requires
+    read_known-requires
     enum_told
     returns
-    enum-known-stop
+    enum_known-stop
     loop-less
     loop-again
     returns-2)

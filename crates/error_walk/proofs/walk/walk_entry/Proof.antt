@@ -4,25 +4,25 @@ use borrow.Author.Rules.{rules}
 use Rattle.error_walk.proofs.walk.walk_entry.Statement.{statement}
 use Rattle.error_walk.proofs.walk.walk_entry.Tie as tie
 
-walk-attribute-requires : tie.Need-walk-attribute-requires
-walk-attribute-requires c κs = search rules
+walk_attribute-requires : tie.Need-walk_attribute-requires
+walk_attribute-requires c κs = search rules
 
-enum-known-refusal : tie.Need-enum-known-refusal
-enum-known-refusal c = search rules
+enum_known-refusal : tie.Need-enum_known-refusal
+enum_known-refusal c = search rules
 
-enum_told : tie.Need-enum-told
+enum_told : tie.Need-enum_told-1
 enum_told c = search rules
 
-returns : tie.Need-returns
-returns c = entry_stop _ _ _ _ _ c.before.before.before.before.before.before.requires c.before.before.before.before.if1.true _ c.before.before.before.walk-attribute.ensures _ c.before.refusal.given.1
+returns : tie.Need-returns-in-Stopped
+returns c = entry_stop _ _ _ _ _ c.requires c.if-number-eq1.true _ c.walk_attribute.ensures _ c.in-Stopped.is
 
-returns-2 : tie.Need-returns-2
-returns-2 c = entry_one _ _ _ _ _ c.before.before.before.before.before.requires c.before.before.before.if1.true _ c.before.before.walk-attribute.ensures _ _ c.enum_told.given.1
+returns-2 : tie.Need-returns-in-Counted
+returns-2 c = entry_one _ _ _ _ _ c.requires c.if-number-eq1.true _ c.walk_attribute.ensures _ _ c.in-Counted.is
 
-returns-3 : tie.Need-returns-3
-returns-3 c = entry_none _ _ _ _ _ c.before.before.requires c.if1.false
+returns-3 : tie.Need-returns-else-number-eq1
+returns-3 c = entry_none _ _ _ _ _ c.requires c.if-number-eq1.false
 
-pub walk-entry-spec : {M : Type 1} → statement M
-walk-entry-spec =
+pub walk_entry_spec : {M : Type 1} → statement M
+walk_entry_spec =
     tie.close
-    (tie.spec walk-attribute-requires enum-known-refusal enum_told returns returns-2 returns-3)
+    (tie.spec walk_attribute-requires enum_known-refusal enum_told returns returns-2 returns-3)

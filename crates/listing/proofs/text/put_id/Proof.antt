@@ -10,53 +10,53 @@ use borrow.Author.Rules.{rules}
 use Rattle.listing.proofs.text.put_id.Statement.{statement}
 use Rattle.listing.proofs.text.put_id.Tie as tie
 
-text-size-requires : tie.Need-text-size-requires
-text-size-requires c κs = search rules
+text_size-requires : tie.Need-text_size-requires
+text_size-requires c κs = search rules
 
-add-last : tie.Need-overflow-add-last
-add-last c = omega (arith, c.text_size.ensures, id_short c.before.before.args.id)
+add-last : tie.Need-overflow_add-last
+add-last c = omega (arith, c.text_size.ensures, id_short c.args.id)
 
-sub-print : tie.Need-overflow-sub-print
+sub-print : tie.Need-slice_bounds-print-count
 sub-print c = search rules
 
-part-print-start : tie.Need-slice-bounds-print-start
+part-print-start : tie.Need-slice_bounds-print-start
 part-print-start c = search rules
 
-part-print-end : tie.Need-slice-bounds-print-end
+part-print-end : tie.Need-slice_bounds-print-end
 part-print-end c = search rules
 
 print-requires : tie.Need-print-requires
 print-requires c κs = search rules
 
-slice-write-out : tie.Need-slice-write-out
-slice-write-out c = omega (arith, c.before.before.before.before.text_size.ensures, id_short c.before.before.before.before.before.before.args.id)
+slice_write-out : tie.Need-bounds-out-last
+slice_write-out c = omega (arith, c.text_size.ensures, id_short c.args.id)
 
-add-result : tie.Need-overflow-add-result
-add-result c = omega (arith, c.before.before.before.before.text_size.ensures, id_short c.before.before.before.before.before.before.args.id)
+add-result : tie.Need-overflow_add-result
+add-result c = omega (arith, c.text_size.ensures, id_short c.args.id)
 
-same_length : tie.Need-same-length
+same_length : tie.Need-shape_of-out
 same_length c = search rules
 
 returns : tie.Need-returns
 returns c =
-    let start = c.before.before.before.before.before.before in
-    let size = c.before.before.before.before.text_size.ensures in
+    let start = c in
+    let size = c.text_size.ensures in
     let short = id_short start.args.id in
     let first : Wrote (text_of start.args.id) start.args.at start.args.out.now _ _ =
-    record { ends = ap (λ (k : ℕ). start.args.at + k) size; holds = wrote_tail (text_of start.args.id) start.args.out.now c.before.before.print.new.1.0 start.args.at (omega arith) (printed_fits start.args.id _ _ (fits_tail (text_of start.args.id) start.args.out.now start.args.at (omega arith)) c.before.before.print.ensures.1) } in
+    record { ends = ap (λ (k : ℕ). start.args.at + k) size; holds = wrote_tail (text_of start.args.id) start.args.out.now c.print.new.out start.args.at (omega arith) (printed_fits start.args.id _ _ (fits_tail (text_of start.args.id) start.args.out.now start.args.at (omega arith)) c.print.ensures.1) } in
     (wrote_behind 32 (omega arith) first, omega (arith, size))
 
-pub put-id-spec : {M : Type 1} → statement M
-put-id-spec =
+pub put_id_spec : {M : Type 1} → statement M
+put_id_spec =
     tie.close
     (tie.spec
-    text-size-requires
+    text_size-requires
     add-last
     sub-print
     part-print-start
     part-print-end
     print-requires
-    slice-write-out
+    slice_write-out
     add-result
     same_length
     returns)

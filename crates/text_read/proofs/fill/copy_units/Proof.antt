@@ -7,99 +7,99 @@ use Rattle.text_read.proofs.CopyLaws.{UnitsLeft, units_begin, unit_there, same_a
 use Rattle.text_read.proofs.fill.copy_units.Statement.{statement}
 use Rattle.text_read.proofs.fill.copy_units.Tie as tie
 
-abbrev invariant-loop : tie.invariant-loop
+abbrev invariant-loop : tie.invariant-loop-at
 invariant-loop text start area₀ first at₀ used₀ area at used = UnitsLeft text start first area₀ area at used
 
-abbrev decreases-loop : tie.decreases-loop
+abbrev decreases-loop : tie.decreases-loop-at
 decreases-loop text start area₀ first at₀ used₀ area at used = length text - at
 
-loop-holds : tie.Need-loop-init invariant-loop decreases-loop
+loop-holds : tie.Need-loop-at-init invariant-loop decreases-loop
 loop-holds c = units_begin _ _ _ _
 
-shared-slice-read-byte : tie.Need-shared-slice-read-byte invariant-loop decreases-loop
-shared-slice-read-byte c = omega arith
+shared_slice_read-byte : tie.Need-bounds-text-at invariant-loop decreases-loop
+shared_slice_read-byte c = omega arith
 
-add-read-escape : tie.Need-overflow-add-read-escape invariant-loop decreases-loop
-add-read-escape c = omega (arith, c.before.before.loop-test.true, c.before.before.before.before.before.before.well-formed)
+add-read_escape : tie.Need-overflow_add-at invariant-loop decreases-loop
+add-read_escape c = omega (arith, c.loop-at-test.true, c.well_formed)
 
-read-escape-requires : tie.Need-read-escape-requires invariant-loop decreases-loop
-read-escape-requires c κs = let start = c.before.before.before.before.before.before in escape_has start.args.text.now start.args.start start.args.first start.args.area.now start.requires _ _ _ c.before.before.before.loop.invariant c.if1.true
+read_escape-requires : tie.Need-read_escape-requires invariant-loop decreases-loop
+read_escape-requires c κs = let start = c in escape_has start.args.text.now start.args.start start.args.first start.args.area.now start.requires _ _ _ c.loop-at.invariant c.if-byte-eq37.true
 
-slice-write-area : tie.Need-slice-write-area invariant-loop decreases-loop
-slice-write-area c = let start = c.before.before.before.before.before.before.before in escape_room start.args.text.now start.args.start start.args.first start.args.area.now start.requires _ _ _ c.before.before.before.before.loop.invariant c.before.if1.true
+slice_write-area : tie.Need-bounds-area-used invariant-loop decreases-loop
+slice_write-area c = let start = c in escape_room start.args.text.now start.args.start start.args.first start.args.area.now start.requires _ _ _ c.loop-at.invariant c.if-byte-eq37.true
 
-add-used : tie.Need-overflow-add-used invariant-loop decreases-loop
+add-used : tie.Need-overflow_add-used invariant-loop decreases-loop
 add-used c =
-    let turn = c.before.before.before.before in
-    let start = c.before.before.before.before.before.before.before in omega (arith, escape_room start.args.text.now start.args.start start.args.first start.args.area.now start.requires _ _ _ turn.loop.invariant c.before.if1.true, same_area start.args.text.now start.args.start start.args.first start.args.area.now start.requires _ _ _ turn.loop.invariant, start.well-formed)
+    let turn = c in
+    let start = c in omega (arith, escape_room start.args.text.now start.args.start start.args.first start.args.area.now start.requires _ _ _ turn.loop-at.invariant c.if-byte-eq37.true, same_area start.args.text.now start.args.start start.args.first start.args.area.now start.requires _ _ _ turn.loop-at.invariant, start.well_formed)
 
-add_at : tie.Need-overflow-add-at invariant-loop decreases-loop
-add_at c = let start = c.before.before.before.before.before.before.before in omega (arith, escape_within start.args.text.now start.args.start start.args.first start.args.area.now start.requires _ _ _ c.before.before.before.before.loop.invariant c.before.if1.true, start.well-formed)
+add_at : tie.Need-overflow_add-at-then-byte-eq37 invariant-loop decreases-loop
+add_at c = let start = c in omega (arith, escape_within start.args.text.now start.args.start start.args.first start.args.area.now start.requires _ _ _ c.loop-at.invariant c.if-byte-eq37.true, start.well_formed)
 
-loop-less : tie.Need-loop-smaller invariant-loop decreases-loop
-loop-less c = omega (arith, c.before.before.before.loop-test.true)
+loop-less : tie.Need-loop-at-smaller-then-byte-eq37 invariant-loop decreases-loop
+loop-less c = omega (arith, c.loop-at-test.true)
 
-loop-again : tie.Need-loop-preserved invariant-loop decreases-loop
-loop-again c = let start = c.before.before.before.before.before.before.before in escape_more start.args.text.now start.args.start start.args.first start.args.area.now start.requires _ _ _ c.before.before.before.before.loop.invariant c.before.if1.true _ c.read-escape.ensures
+loop-again : tie.Need-loop-at-preserved-then-byte-eq37 invariant-loop decreases-loop
+loop-again c = let start = c in escape_more start.args.text.now start.args.start start.args.first start.args.area.now start.requires _ _ _ c.loop-at.invariant c.if-byte-eq37.true _ c.read_escape.ensures
 
-same_length : tie.Need-same-length invariant-loop decreases-loop
-same_length c = let start = c.before.before.before.before.before.before.before in same_area start.args.text.now start.args.start start.args.first start.args.area.now start.requires _ _ _ c.before.before.before.before.loop.invariant
+same_length : tie.Need-shape_of-area-then-byte-eq9 invariant-loop decreases-loop
+same_length c = let start = c in same_area start.args.text.now start.args.start start.args.first start.args.area.now start.requires _ _ _ c.loop-at.invariant
 
-returns : tie.Need-returns invariant-loop decreases-loop
-returns c = let start = c.before.before.before.before.before.before.before in units_end start.args.text.now start.args.start start.args.first start.args.area.now start.requires _ _ _ c.before.before.before.before.loop.invariant (c.before.before.before.loop-test.true, inl c.if2.true)
+returns : tie.Need-returns-then-byte-eq9 invariant-loop decreases-loop
+returns c = let start = c in units_end start.args.text.now start.args.start start.args.first start.args.area.now start.requires _ _ _ c.loop-at.invariant (c.loop-at-test.true, inl c.if-byte-eq9.true)
 
-same-length-2 : tie.Need-same-length-2 invariant-loop decreases-loop
-same-length-2 c = let start = c.before.before.before.before.before.before.before.before in same_area start.args.text.now start.args.start start.args.first start.args.area.now start.requires _ _ _ c.before.before.before.before.before.loop.invariant
+same_length-2 : tie.Need-shape_of-area-then-byte-eq10 invariant-loop decreases-loop
+same_length-2 c = let start = c in same_area start.args.text.now start.args.start start.args.first start.args.area.now start.requires _ _ _ c.loop-at.invariant
 
-returns-2 : tie.Need-returns-2 invariant-loop decreases-loop
-returns-2 c = let start = c.before.before.before.before.before.before.before.before in units_end start.args.text.now start.args.start start.args.first start.args.area.now start.requires _ _ _ c.before.before.before.before.before.loop.invariant (c.before.before.before.before.loop-test.true, inr c.if3.true)
+returns-2 : tie.Need-returns-then-byte-eq10 invariant-loop decreases-loop
+returns-2 c = let start = c in units_end start.args.text.now start.args.start start.args.first start.args.area.now start.requires _ _ _ c.loop-at.invariant (c.loop-at-test.true, inr c.if-byte-eq10.true)
 
-slice-write-area-2 : tie.Need-slice-write-area-2 invariant-loop decreases-loop
-slice-write-area-2 c = let start = c.before.before.before.before.before.before.before.before in plain_room start.args.text.now start.args.start start.args.first start.args.area.now start.requires _ _ _ c.before.before.before.before.before.loop.invariant c.before.before.if1.false c.before.if2.false c.if3.false
+slice_write-area-2 : tie.Need-bounds-area-used-in-loop-at invariant-loop decreases-loop
+slice_write-area-2 c = let start = c in plain_room start.args.text.now start.args.start start.args.first start.args.area.now start.requires _ _ _ c.loop-at.invariant c.if-byte-eq37.false c.if-byte-eq9.false c.if-byte-eq10.false
 
-add-used-2 : tie.Need-overflow-add-used-2 invariant-loop decreases-loop
+add-used-2 : tie.Need-overflow_add-used-in-loop-at invariant-loop decreases-loop
 add-used-2 c =
-    let turn = c.before.before.before.before.before in
-    let start = c.before.before.before.before.before.before.before.before in omega (arith, plain_room start.args.text.now start.args.start start.args.first start.args.area.now start.requires _ _ _ turn.loop.invariant c.before.before.if1.false c.before.if2.false c.if3.false, same_area start.args.text.now start.args.start start.args.first start.args.area.now start.requires _ _ _ turn.loop.invariant, start.well-formed)
+    let turn = c in
+    let start = c in omega (arith, plain_room start.args.text.now start.args.start start.args.first start.args.area.now start.requires _ _ _ turn.loop-at.invariant c.if-byte-eq37.false c.if-byte-eq9.false c.if-byte-eq10.false, same_area start.args.text.now start.args.start start.args.first start.args.area.now start.requires _ _ _ turn.loop-at.invariant, start.well_formed)
 
-add-at-2 : tie.Need-overflow-add-at-2 invariant-loop decreases-loop
-add-at-2 c = omega (arith, c.before.before.before.before.loop-test.true, c.before.before.before.before.before.before.before.before.well-formed)
+add-at-2 : tie.Need-overflow_add-at-in-loop-at invariant-loop decreases-loop
+add-at-2 c = omega (arith, c.loop-at-test.true, c.well_formed)
 
-loop-less-2 : tie.Need-loop-smaller-2 invariant-loop decreases-loop
-loop-less-2 c = omega (arith, c.before.before.before.before.loop-test.true)
+loop-less-2 : tie.Need-loop-at-smaller invariant-loop decreases-loop
+loop-less-2 c = omega (arith, c.loop-at-test.true)
 
-loop-again-2 : tie.Need-loop-preserved-2 invariant-loop decreases-loop
-loop-again-2 c = let start = c.before.before.before.before.before.before.before.before in plain_more start.args.text.now start.args.start start.args.first start.args.area.now start.requires _ _ _ c.before.before.before.before.before.loop.invariant c.before.before.if1.false c.before.if2.false c.if3.false
+loop-again-2 : tie.Need-loop-at-preserved invariant-loop decreases-loop
+loop-again-2 c = let start = c in plain_more start.args.text.now start.args.start start.args.first start.args.area.now start.requires _ _ _ c.loop-at.invariant c.if-byte-eq37.false c.if-byte-eq9.false c.if-byte-eq10.false
 
-same-length-3 : tie.Need-same-length-3 invariant-loop decreases-loop
-same-length-3 c = let start = c.before.before.before.before in same_area start.args.text.now start.args.start start.args.first start.args.area.now start.requires _ _ _ c.before.loop.invariant
+same_length-3 : tie.Need-shape_of-area invariant-loop decreases-loop
+same_length-3 c = let start = c in same_area start.args.text.now start.args.start start.args.first start.args.area.now start.requires _ _ _ c.loop-at.invariant
 
-returns-3 : tie.Need-returns-3 invariant-loop decreases-loop
-returns-3 c = let start = c.before.before.before.before in absurd (omega (arith, unit_there start.args.text.now start.args.start start.args.first start.args.area.now start.requires _ _ _ c.before.loop.invariant, c.loop-test.false))
+returns-3 : tie.Need-returns invariant-loop decreases-loop
+returns-3 c = let start = c in absurd (omega (arith, unit_there start.args.text.now start.args.start start.args.first start.args.area.now start.requires _ _ _ c.loop-at.invariant, c.loop-at-test.false))
 
-pub copy-units-spec : {M : Type 1} → statement M
-copy-units-spec =
+pub copy_units_spec : {M : Type 1} → statement M
+copy_units_spec =
     tie.close
     (tie.spec
     invariant-loop
     decreases-loop
     loop-holds
-    shared-slice-read-byte
-    add-read-escape
-    read-escape-requires
-    slice-write-area
+    shared_slice_read-byte
+    add-read_escape
+    read_escape-requires
+    slice_write-area
     add-used
     add_at
     loop-less
     loop-again
     same_length
     returns
-    same-length-2
+    same_length-2
     returns-2
-    slice-write-area-2
+    slice_write-area-2
     add-used-2
     add-at-2
     loop-less-2
     loop-again-2
-    same-length-3
+    same_length-3
     returns-3)

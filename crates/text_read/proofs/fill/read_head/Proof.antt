@@ -4,65 +4,65 @@ use Rattle.text_read.proofs.FillLaws.{head_there, sign_letter, head_signed, plai
 use Rattle.text_read.proofs.fill.read_head.Statement.{statement}
 use Rattle.text_read.proofs.fill.read_head.Tie as tie
 
-read-id-requires : tie.Need-read-id-requires
-read-id-requires c κs = c.before.requires
+read_id-requires : tie.Need-read_id-number-requires
+read_id-requires c κs = c.requires
 
-shared-slice-read-if1 : tie.Need-shared-slice-read-if1
-shared-slice-read-if1 c =
-    let start = c.before.before.before in
+shared_slice_read-if1 : tie.Need-bounds-text-at
+shared_slice_read-if1 c =
+    let start = c in
     let a = start.args in
-    let read-id = c.before.read-id in
+    let read-id = c.read_id-number in
     head_there a.text.now a.start a.first start.requires read-id.result read-id.ensures
 
-add-read-letter : tie.Need-overflow-add-read-letter
-add-read-letter c =
-    let start = c.before.before.before.before in
+add-read_letter : tie.Need-overflow_add-at
+add-read_letter c =
+    let start = c in
     let a = start.args in
-    let read-id = c.before.before.read-id in
+    let read-id = c.read_id-number in
     omega (
       arith,
       head_there a.text.now a.start a.first start.requires read-id.result read-id.ensures,
-      start.well-formed,
+      start.well_formed,
     )
 
-read-letter-requires : tie.Need-read-letter-requires
-read-letter-requires c κs =
-    let start = c.before.before.before.before in
+read_letter-requires : tie.Need-read_letter-requires
+read_letter-requires c κs =
+    let start = c in
     let a = start.args in
-    let read-id = c.before.before.read-id in
-    sign_letter a.text.now a.start a.first start.requires read-id.result read-id.ensures c.if1.true
+    let read-id = c.read_id-number in
+    sign_letter a.text.now a.start a.first start.requires read-id.result read-id.ensures c.if-text-at-eq33.true
 
-returns : tie.Need-returns
+returns : tie.Need-returns-then-text-at-eq33
 returns c =
-    let start = c.before.before.before.before.before in
+    let start = c in
     let a = start.args in
-    let read-id = c.before.before.before.read-id in
+    let read-id = c.read_id-number in
     head_signed a.text.now a.start a.first start.requires read-id.result read-id.ensures
-    c.before.if1.true c.read-letter.result c.read-letter.ensures
+    c.if-text-at-eq33.true c.read_letter.result c.read_letter.ensures
 
-read-letter-requires-2 : tie.Need-read-letter-requires-2
-read-letter-requires-2 c κs =
-    let start = c.before.before.before.before in
+read_letter-requires-2 : tie.Need-read_letter-requires-2
+read_letter-requires-2 c κs =
+    let start = c in
     let a = start.args in
-    let read-id = c.before.before.read-id in
-    plain_letter a.text.now a.start a.first start.requires read-id.result read-id.ensures c.if1.false
+    let read-id = c.read_id-number in
+    plain_letter a.text.now a.start a.first start.requires read-id.result read-id.ensures c.if-text-at-eq33.false
 
-returns-2 : tie.Need-returns-2
+returns-2 : tie.Need-returns
 returns-2 c =
-    let start = c.before.before.before.before.before in
+    let start = c in
     let a = start.args in
-    let read-id = c.before.before.before.read-id in
+    let read-id = c.read_id-number in
     head_plain a.text.now a.start a.first start.requires read-id.result read-id.ensures
-    c.before.if1.false c.read-letter2.result c.read-letter2.ensures
+    c.if-text-at-eq33.false c.read_letter-2.result c.read_letter-2.ensures
 
-pub read-head-spec : {M : Type 1} → statement M
-read-head-spec =
+pub read_head_spec : {M : Type 1} → statement M
+read_head_spec =
     tie.close
     (tie.spec
-    read-id-requires
-    shared-slice-read-if1
-    add-read-letter
-    read-letter-requires
+    read_id-requires
+    shared_slice_read-if1
+    add-read_letter
+    read_letter-requires
     returns
-    read-letter-requires-2
+    read_letter-requires-2
     returns-2)

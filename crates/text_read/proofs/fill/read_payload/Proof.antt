@@ -6,60 +6,60 @@ use borrow.Author.Rules.{rules}
 use Rattle.text_read.proofs.fill.read_payload.Statement.{statement}
 use Rattle.text_read.proofs.fill.read_payload.Tie as tie
 
-kind-of-requires : tie.Need-kind-of-requires
-kind-of-requires c κs = search rules
+kind_of-requires : tie.Need-kind_of-requires
+kind_of-requires c κs = search rules
 
-enum_told : tie.Need-enum-told
+enum_told : tie.Need-enum_told-1
 enum_told c = search rules
 
-enum-told-2 : tie.Need-enum-told-2
-enum-told-2 c = search rules
+enum_told-2 : tie.Need-enum_told-in-Unknown
+enum_told-2 c = search rules
 
-enum-told-3 : tie.Need-enum-told-3
-enum-told-3 c = search rules
+enum_told-3 : tie.Need-enum_told-in-Scalar
+enum_told-3 c = search rules
 
-read-word-requires : tie.Need-read-word-requires
-read-word-requires c κs = let start = c.before.before.before.before.before in let kind = kind_scalar start.args.kind _ c.before.before.kind-of.ensures c.enum-told3.given.1 in word_has start.args.text.now start.args.at start.args.kind start.args.used start.args.area.now start.requires kind.0 kind.1
+read_word-requires : tie.Need-read_word-word-requires
+read_word-requires c κs = let start = c in let kind = kind_scalar start.args.kind _ c.kind_of.ensures c.in-Scalar.is in word_has start.args.text.now start.args.at start.args.kind start.args.used start.args.area.now start.requires kind.0 kind.1
 
-add-t10 : tie.Need-overflow-add-t10
-add-t10 c = let start = c.before.before.before.before.before.before in let kind = kind_scalar start.args.kind _ c.before.before.before.kind-of.ensures c.before.enum-told3.given.1 in omega (arith, word_within start.args.text.now start.args.at start.args.kind start.args.used start.args.area.now start.requires kind.0 kind.1 _ c.read_word.ensures, start.well-formed)
+add-t10 : tie.Need-overflow_add-result
+add-t10 c = let start = c in let kind = kind_scalar start.args.kind _ c.kind_of.ensures c.in-Scalar.is in omega (arith, word_within start.args.text.now start.args.at start.args.kind start.args.used start.args.area.now start.requires kind.0 kind.1 _ c.read_word-word.ensures, start.well_formed)
 
-enum-told-4 : tie.Need-enum-told-4
-enum-told-4 c = search rules
+enum_told-4 : tie.Need-enum_told-in-Blob
+enum_told-4 c = search rules
 
-copy-units-requires : tie.Need-copy-units-requires
-copy-units-requires c κs = let start = c.before.before.before.before.before.before in let kind = kind_blob start.args.kind _ c.before.before.before.kind-of.ensures c.before.enum-told4.given.1 in blob_has start.args.text.now start.args.at start.args.kind start.args.used start.args.area.now start.requires kind.0 kind.1
+copy_units-requires : tie.Need-copy_units-copied-requires
+copy_units-requires c κs = let start = c in let kind = kind_blob start.args.kind _ c.kind_of.ensures c.in-Blob.is in blob_has start.args.text.now start.args.at start.args.kind start.args.used start.args.area.now start.requires kind.0 kind.1
 
-sub-t14 : tie.Need-overflow-sub-t14
-sub-t14 c = let start = c.before.before.before.before.before.before.before.before.before.before in let kind = kind_blob start.args.kind _ c.before.before.before.before.before.before.before.kind-of.ensures c.before.before.before.before.before.enum-told4.given.1 in copied_behind start.args.text.now start.args.at start.args.kind start.args.used start.args.area.now start.requires kind.0 kind.1 _ _ c.before.before.before.copy-units.ensures
+sub-t14 : tie.Need-overflow_sub-result
+sub-t14 c = let start = c in let kind = kind_blob start.args.kind _ c.kind_of.ensures c.in-Blob.is in copied_behind start.args.text.now start.args.at start.args.kind start.args.used start.args.area.now start.requires kind.0 kind.1 _ _ c.copy_units-copied.ensures
 
-returns : tie.Need-returns
-returns c = let start = c.before.before.before.before.before in payload_null start.args.text.now start.args.at start.args.kind start.args.used start.args.area.now start.requires (kind_null start.args.kind _ c.before.before.kind-of.ensures c.enum_told.given.1)
+returns : tie.Need-returns-in-Null
+returns c = let start = c in payload_null start.args.text.now start.args.at start.args.kind start.args.used start.args.area.now start.requires (kind_null start.args.kind _ c.kind_of.ensures c.in-Null.is)
 
-returns-2 : tie.Need-returns-2
-returns-2 c = let start = c.before.before.before.before.before in payload_unknown start.args.text.now start.args.at start.args.kind start.args.used start.args.area.now start.requires (kind_unknown start.args.kind _ c.before.before.kind-of.ensures c.enum-told2.given.1).0 _ _
+returns-2 : tie.Need-returns-in-Unknown
+returns-2 c = let start = c in payload_unknown start.args.text.now start.args.at start.args.kind start.args.used start.args.area.now start.requires (kind_unknown start.args.kind _ c.kind_of.ensures c.in-Unknown.is).0 _ _
 
-returns-3 : tie.Need-returns-3
-returns-3 c = let start = c.before.before.before.before.before.before in let kind = kind_scalar start.args.kind _ c.before.before.before.kind-of.ensures c.before.enum-told3.given.1 in payload_scalar start.args.text.now start.args.at start.args.kind start.args.used start.args.area.now start.requires kind.0 kind.1 _ c.read_word.ensures
+returns-3 : tie.Need-returns-in-Scalar
+returns-3 c = let start = c in let kind = kind_scalar start.args.kind _ c.kind_of.ensures c.in-Scalar.is in payload_scalar start.args.text.now start.args.at start.args.kind start.args.used start.args.area.now start.requires kind.0 kind.1 _ c.read_word-word.ensures
 
-same_length : tie.Need-same-length
+same_length : tie.Need-shape_of-area
 same_length c = search rules
 
-returns-4 : tie.Need-returns-4
-returns-4 c = let start = c.before.before.before.before.before.before.before.before.before.before in let kind = kind_blob start.args.kind _ c.before.before.before.before.before.before.before.kind-of.ensures c.before.before.before.before.before.enum-told4.given.1 in payload_blob start.args.text.now start.args.at start.args.kind start.args.used start.args.area.now start.requires kind.0 kind.1 _ _ c.before.before.before.copy-units.ensures
+returns-4 : tie.Need-returns-in-Blob
+returns-4 c = let start = c in let kind = kind_blob start.args.kind _ c.kind_of.ensures c.in-Blob.is in payload_blob start.args.text.now start.args.at start.args.kind start.args.used start.args.area.now start.requires kind.0 kind.1 _ _ c.copy_units-copied.ensures
 
-pub read-payload-spec : {M : Type 1} → statement M
-read-payload-spec =
+pub read_payload_spec : {M : Type 1} → statement M
+read_payload_spec =
     tie.close
     (tie.spec
-    kind-of-requires
+    kind_of-requires
     enum_told
-    enum-told-2
-    enum-told-3
-    read-word-requires
+    enum_told-2
+    enum_told-3
+    read_word-requires
     add-t10
-    enum-told-4
-    copy-units-requires
+    enum_told-4
+    copy_units-requires
     sub-t14
     returns
     returns-2

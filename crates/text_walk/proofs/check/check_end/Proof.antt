@@ -16,13 +16,13 @@ returns : tie.Need-returns-then-not-ends
 returns c =
     let a = c.args in
     end_not a.text.now a.at a.length a.size _ c.byte_at-byte.ensures _ c.ends_value-ends.ensures
-    (not-true _ c.if-not-ends.true)
+    (c.if-not-ends.true)
 
 returns-2 : tie.Need-returns-then-large
 returns-2 c =
     let a = c.args in
     end_over a.text.now a.at a.length a.size _ c.byte_at-byte.ensures _
-    c.ends_value-ends.ensures (not-false _ c.if-not-ends.false) (ltb-true _ _ c.if-large.true)
+    c.ends_value-ends.ensures (c.if-not-ends.false) (c.if-large.true)
 
 add-t12 : tie.Need-overflow_add-result
 add-t12 c =
@@ -32,14 +32,14 @@ add-t12 c =
       arith,
       start.well_formed,
       end_there a.text.now a.at a.length a.size _ c.byte_at-byte.ensures _
-          c.ends_value-ends.ensures (not-false _ c.if-not-ends.false),
+          c.ends_value-ends.ensures (c.if-not-ends.false),
     )
 
 returns-3 : tie.Need-returns
 returns-3 c =
     let a = c.args in
     end_good a.text.now a.at a.length a.size _ c.byte_at-byte.ensures _
-    c.ends_value-ends.ensures (not-false _ c.if-not-ends.false) (ltb-false _ _ c.if-large.false)
+    c.ends_value-ends.ensures (c.if-not-ends.false) (c.if-large.false)
 
 pub check_end_spec : {M : Type 1} → statement M
 check_end_spec = tie.close (tie.spec byte_at-requires ends_value-requires returns returns-2 add-t12 returns-3)

@@ -45,7 +45,7 @@ add-t4 : tie.Need-overflow_add-result
 add-t4 c = search rules
 
 returns-4 : tie.Need-returns
-returns-4 c = escape_by _ _ (search rules) (c.is_high.ensures (not-false _ c.if-not-is_high.false)) (c.is_low.ensures (not-false _ c.if-not-is_low.false))
+returns-4 c = escape_by _ _ (search rules) (c.is_high.ensures (c.if-not-is_high.false)) (c.is_low.ensures (c.if-not-is_low.false))
 
 pub check_escape_spec : {M : Type 1} → statement M
 check_escape_spec =

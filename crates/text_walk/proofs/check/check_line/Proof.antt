@@ -19,7 +19,7 @@ returns c =
     let a = start.args in
     let begins-line = c.begins_line in
     line_other a.text.now a.at a.row a.size start.requires.0 begins-line.result begins-line.ensures
-    (not-true _ c.if-not-begins_line.true)
+    (c.if-not-begins_line.true)
 
 add-t13 : tie.Need-overflow_add-result
 add-t13 c = search rules
@@ -30,7 +30,7 @@ returns-2 c =
     let a = start.args in
     let begins-line = c.begins_line in
     line_many a.text.now a.at a.row a.size start.requires.0 begins-line.result begins-line.ensures
-    (not-false _ c.if-not-begins_line.false) c.if-row.true
+    (c.if-not-begins_line.false) c.if-row.true
 
 add-sum : tie.Need-overflow_add-sum
 add-sum c = omega (arith, c.requires.2)
@@ -41,7 +41,7 @@ returns-3 c =
     let a = start.args in
     let begins-line = c.begins_line in
     line_large a.text.now a.at a.row a.size start.requires.0 begins-line.result begins-line.ensures
-    (not-false _ c.if-not-begins_line.false) (omega (arith, start.requires.1, c.if-row.false)) c.if-sum-gt-MAX_ROWSET_SIZE.true
+    (c.if-not-begins_line.false) (omega (arith, start.requires.1, c.if-row.false)) c.if-sum-gt-MAX_ROWSET_SIZE.true
 
 add-t18 : tie.Need-overflow_add-result-then-byte-eq10
 add-t18 c =
@@ -54,7 +54,7 @@ returns-4 c =
     let a = start.args in
     let begins-line = c.begins_line in
     line_empty a.text.now a.at a.row a.size start.requires.0 begins-line.result begins-line.ensures
-    (not-false _ c.if-not-begins_line.false) (omega (arith, start.requires.1, c.if-row.false))
+    (c.if-not-begins_line.false) (omega (arith, start.requires.1, c.if-row.false))
     c.if-sum-gt-MAX_ROWSET_SIZE.false c.if-byte-eq10.true
 
 add-check_null : tie.Need-overflow_add-at
@@ -71,7 +71,7 @@ returns-5 c =
     let a = start.args in
     let begins-line = c.begins_line in
     line_null a.text.now a.at a.row a.size start.requires.0 begins-line.result begins-line.ensures
-    (not-false _ c.if-not-begins_line.false)
+    (c.if-not-begins_line.false)
     (omega (arith, start.requires.1, c.if-row.false)) c.if-sum-gt-MAX_ROWSET_SIZE.false
     c.if-byte-eq35.true c.check_null.result c.check_null.ensures
 
@@ -82,7 +82,7 @@ check_values-requires c κs =
     let begins-line = c.begins_line in (
       omega (arith, start.requires.0),
       line_digit a.text.now a.at a.row a.size start.requires.0
-          begins-line.result begins-line.ensures (not-false _ c.if-not-begins_line.false)
+          begins-line.result begins-line.ensures (c.if-not-begins_line.false)
           c.if-byte-eq10.false c.if-byte-eq35.false,
       (omega (arith, start.requires.1, c.if-row.false)),
       c.if-sum-gt-MAX_ROWSET_SIZE.false,

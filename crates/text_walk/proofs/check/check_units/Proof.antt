@@ -39,7 +39,7 @@ too_long-requires c κs = search rules
 returns : tie.Need-returns-then-at-limit invariant-loop decreases-loop
 returns c =
     let turn = c in
-    let start = c in let so_far = turn.loop-at.invariant in units_over start.args.text.now start.args.start turn.loop-at.at _ so_far.1 c.loop-at-test.true (sym c.is_escaped.ensures ∙ not-true _ c.if-not-is_escaped.true) _ c.too_long.ensures (at_most start.args.text.now start.args.start turn.loop-at.at turn.loop-at.limit so_far c.if-at-limit.true)
+    let start = c in let so_far = turn.loop-at.invariant in units_over start.args.text.now start.args.start turn.loop-at.at _ so_far.1 c.loop-at-test.true (sym c.is_escaped.ensures ∙ c.if-not-is_escaped.true) _ c.too_long.ensures (at_most start.args.text.now start.args.start turn.loop-at.at turn.loop-at.limit so_far c.if-at-limit.true)
 
 add_at : tie.Need-overflow_add-at invariant-loop decreases-loop
 add_at c = omega (arith, c.loop-at-test.true, c.well_formed)
@@ -50,7 +50,7 @@ loop-less c = omega (arith, c.loop-at-test.true)
 loop-again : tie.Need-loop-at-preserved-then-not-is_escaped invariant-loop decreases-loop
 loop-again c =
     let turn = c in
-    let start = c in let so_far = turn.loop-at.invariant in plain_to start.args.text.now start.args.start turn.loop-at.at turn.loop-at.limit so_far c.loop-at-test.true (sym c.is_escaped.ensures ∙ not-true _ c.if-not-is_escaped.true) c.if-at-limit.false
+    let start = c in let so_far = turn.loop-at.invariant in plain_to start.args.text.now start.args.start turn.loop-at.at turn.loop-at.limit so_far c.loop-at-test.true (sym c.is_escaped.ensures ∙ c.if-not-is_escaped.true) c.if-at-limit.false
 
 add-check_escape : tie.Need-overflow_add-at-then-byte-eq37 invariant-loop decreases-loop
 add-check_escape c = omega (arith, c.loop-at-test.true, c.well_formed)
@@ -64,7 +64,7 @@ enum_known-place c = search rules
 returns-2 : tie.Need-returns-in-Bad invariant-loop decreases-loop
 returns-2 c =
     let turn = c in
-    let start = c in let so_far = turn.loop-at.invariant in units_broken start.args.text.now start.args.start turn.loop-at.at _ so_far.1 c.loop-at-test.true (sym c.is_escaped.ensures ∙ not-false _ c.if-not-is_escaped.false) c.if-byte-eq37.true _ c.check_escape.ensures _ c.in-Bad.is
+    let start = c in let so_far = turn.loop-at.invariant in units_broken start.args.text.now start.args.start turn.loop-at.at _ so_far.1 c.loop-at-test.true (sym c.is_escaped.ensures ∙ c.if-not-is_escaped.false) c.if-byte-eq37.true _ c.check_escape.ensures _ c.in-Bad.is
 
 enum_known-next : tie.Need-enum_known-next invariant-loop decreases-loop
 enum_known-next c = search rules
@@ -75,32 +75,32 @@ too_long-requires-2 c κs = search rules
 returns-3 : tie.Need-returns-then-at-limit-2 invariant-loop decreases-loop
 returns-3 c =
     let turn = c in
-    let start = c in let so_far = turn.loop-at.invariant in units_escape_over start.args.text.now start.args.start turn.loop-at.at _ so_far.1 c.loop-at-test.true (sym c.is_escaped.ensures ∙ not-false _ c.if-not-is_escaped.false) c.if-byte-eq37.true _ c.check_escape.ensures _ c.in-To.is _ c.too_long-then-at-limit-2.ensures (at_most start.args.text.now start.args.start turn.loop-at.at turn.loop-at.limit so_far c.if-at-limit-2.true)
+    let start = c in let so_far = turn.loop-at.invariant in units_escape_over start.args.text.now start.args.start turn.loop-at.at _ so_far.1 c.loop-at-test.true (sym c.is_escaped.ensures ∙ c.if-not-is_escaped.false) c.if-byte-eq37.true _ c.check_escape.ensures _ c.in-To.is _ c.too_long-then-at-limit-2.ensures (at_most start.args.text.now start.args.start turn.loop-at.at turn.loop-at.limit so_far c.if-at-limit-2.true)
 
 sub-limit : tie.Need-overflow_sub-limit invariant-loop decreases-loop
 sub-limit c =
     let turn = c in
-    let start = c in let so_far = turn.loop-at.invariant in let lies = escape_lies start.args.text.now start.args.start turn.loop-at.at _ so_far.1 c.loop-at-test.true (sym c.is_escaped.ensures ∙ not-false _ c.if-not-is_escaped.false) c.if-byte-eq37.true _ c.check_escape.ensures _ c.in-To.is in omega (arith, lies.0, lies.1, so_far.0, start.well_formed)
+    let start = c in let so_far = turn.loop-at.invariant in let lies = escape_lies start.args.text.now start.args.start turn.loop-at.at _ so_far.1 c.loop-at-test.true (sym c.is_escaped.ensures ∙ c.if-not-is_escaped.false) c.if-byte-eq37.true _ c.check_escape.ensures _ c.in-To.is in omega (arith, lies.0, lies.1, so_far.0, start.well_formed)
 
 sub-limit-2 : tie.Need-overflow_sub-limit-in-To invariant-loop decreases-loop
 sub-limit-2 c =
     let turn = c in
-    let start = c in let so_far = turn.loop-at.invariant in let lies = escape_lies start.args.text.now start.args.start turn.loop-at.at _ so_far.1 c.loop-at-test.true (sym c.is_escaped.ensures ∙ not-false _ c.if-not-is_escaped.false) c.if-byte-eq37.true _ c.check_escape.ensures _ c.in-To.is in omega (arith, lies.0, lies.1, so_far.0, start.well_formed)
+    let start = c in let so_far = turn.loop-at.invariant in let lies = escape_lies start.args.text.now start.args.start turn.loop-at.at _ so_far.1 c.loop-at-test.true (sym c.is_escaped.ensures ∙ c.if-not-is_escaped.false) c.if-byte-eq37.true _ c.check_escape.ensures _ c.in-To.is in omega (arith, lies.0, lies.1, so_far.0, start.well_formed)
 
 add-limit-2 : tie.Need-overflow_add-limit-in-To invariant-loop decreases-loop
 add-limit-2 c =
     let turn = c in
-    let start = c in let so_far = turn.loop-at.invariant in let lies = escape_lies start.args.text.now start.args.start turn.loop-at.at _ so_far.1 c.loop-at-test.true (sym c.is_escaped.ensures ∙ not-false _ c.if-not-is_escaped.false) c.if-byte-eq37.true _ c.check_escape.ensures _ c.in-To.is in omega (arith, lies.0, lies.1, so_far.0, start.well_formed)
+    let start = c in let so_far = turn.loop-at.invariant in let lies = escape_lies start.args.text.now start.args.start turn.loop-at.at _ so_far.1 c.loop-at-test.true (sym c.is_escaped.ensures ∙ c.if-not-is_escaped.false) c.if-byte-eq37.true _ c.check_escape.ensures _ c.in-To.is in omega (arith, lies.0, lies.1, so_far.0, start.well_formed)
 
 loop-less-2 : tie.Need-loop-at-smaller invariant-loop decreases-loop
 loop-less-2 c =
     let turn = c in
-    let start = c in let so_far = turn.loop-at.invariant in let lies = escape_lies start.args.text.now start.args.start turn.loop-at.at _ so_far.1 c.loop-at-test.true (sym c.is_escaped.ensures ∙ not-false _ c.if-not-is_escaped.false) c.if-byte-eq37.true _ c.check_escape.ensures _ c.in-To.is in omega (arith, lies.0, lies.1, so_far.0, start.well_formed)
+    let start = c in let so_far = turn.loop-at.invariant in let lies = escape_lies start.args.text.now start.args.start turn.loop-at.at _ so_far.1 c.loop-at-test.true (sym c.is_escaped.ensures ∙ c.if-not-is_escaped.false) c.if-byte-eq37.true _ c.check_escape.ensures _ c.in-To.is in omega (arith, lies.0, lies.1, so_far.0, start.well_formed)
 
 loop-again-2 : tie.Need-loop-at-preserved invariant-loop decreases-loop
 loop-again-2 c =
     let turn = c in
-    let start = c in let so_far = turn.loop-at.invariant in escape_to start.args.text.now start.args.start turn.loop-at.at turn.loop-at.limit so_far c.loop-at-test.true (sym c.is_escaped.ensures ∙ not-false _ c.if-not-is_escaped.false) c.if-byte-eq37.true _ c.check_escape.ensures _ c.in-To.is c.if-at-limit-2.false
+    let start = c in let so_far = turn.loop-at.invariant in escape_to start.args.text.now start.args.start turn.loop-at.at turn.loop-at.limit so_far c.loop-at-test.true (sym c.is_escaped.ensures ∙ c.if-not-is_escaped.false) c.if-byte-eq37.true _ c.check_escape.ensures _ c.in-To.is c.if-at-limit-2.false
 
 cast-t21 : tie.Need-overflow_cast-result invariant-loop decreases-loop
 cast-t21 c = search rules
@@ -133,7 +133,7 @@ returns-5 c =
 returns-6 : tie.Need-returns-in-loop-at invariant-loop decreases-loop
 returns-6 c =
     let turn = c in
-    let start = c in let so_far = turn.loop-at.invariant in units_other start.args.text.now start.args.start turn.loop-at.at _ so_far.1 c.loop-at-test.true (sym c.is_escaped.ensures ∙ not-false _ c.if-not-is_escaped.false) c.if-byte-eq37.false c.if-byte-eq9.false c.if-byte-eq10.false
+    let start = c in let so_far = turn.loop-at.invariant in units_other start.args.text.now start.args.start turn.loop-at.at _ so_far.1 c.loop-at-test.true (sym c.is_escaped.ensures ∙ c.if-not-is_escaped.false) c.if-byte-eq37.false c.if-byte-eq9.false c.if-byte-eq10.false
 
 returns-7 : tie.Need-returns invariant-loop decreases-loop
 returns-7 c = let start = c in let so_far = c.loop-at.invariant in units_early start.args.text.now start.args.start c.loop-at.at _ so_far.1 c.loop-at-test.false

@@ -34,7 +34,7 @@ returns c =
     let turn = c.loop-at in
     values_other a.text.now a.start a.row a.before turn.at turn.count turn.bytes turn.size
     turn.invariant start.requires.1 start.requires.2 start.requires.3 c.loop-at-test.true
-    (sym c.is_digit-digit.ensures ∙ not-true _ c.if-not-digit.true)
+    (sym c.is_digit-digit.ensures ∙ c.if-not-digit.true)
 
 returns-2 : tie.Need-returns-then-full invariant-loop decreases-loop
 returns-2 c =
@@ -44,17 +44,17 @@ returns-2 c =
     values_many a.text.now a.start a.row a.before turn.at turn.count turn.bytes turn.size
     turn.invariant start.requires.1 start.requires.2 start.requires.3
     c.loop-at-test.true
-    (sym c.is_digit-digit.ensures ∙ not-false _ c.if-not-digit.false) _
-    refl (eqb-true _ _ c.if-full.true)
+    (sym c.is_digit-digit.ensures ∙ c.if-not-digit.false) _
+    refl (c.if-full.true)
 
 add-check_value : tie.Need-overflow_add-at invariant-loop decreases-loop
 add-check_value c = omega arith
 
 sub-check_value : tie.Need-overflow_sub-byte invariant-loop decreases-loop
-sub-check_value c = omega (arith, (digit_range (get_or c.args.text.now c.loop-at.at 0) (sym c.is_digit-digit.ensures ∙ not-false _ c.if-not-digit.false)).0)
+sub-check_value c = omega (arith, (digit_range (get_or c.args.text.now c.loop-at.at 0) (sym c.is_digit-digit.ensures ∙ c.if-not-digit.false)).0)
 
 cast-check_value : tie.Need-overflow_cast-byte invariant-loop decreases-loop
-cast-check_value c = omega (arith, (digit_range (get_or c.args.text.now c.loop-at.at 0) (sym c.is_digit-digit.ensures ∙ not-false _ c.if-not-digit.false)).1)
+cast-check_value c = omega (arith, (digit_range (get_or c.args.text.now c.loop-at.at 0) (sym c.is_digit-digit.ensures ∙ c.if-not-digit.false)).1)
 
 check_value-requires : tie.Need-check_value-requires invariant-loop decreases-loop
 check_value-requires c κs =
@@ -63,7 +63,7 @@ check_value-requires c κs =
       omega (
         arith,
         (digit_range (get_or c.args.text.now turn.at 0)
-            (sym c.is_digit-digit.ensures ∙ not-false _ c.if-not-digit.false)).1,
+            (sym c.is_digit-digit.ensures ∙ c.if-not-digit.false)).1,
       ),
       turn.invariant.4,
     )
@@ -80,8 +80,7 @@ returns-3 c =
     values_broken a.text.now a.start a.row a.before turn.at turn.count turn.bytes turn.size
     turn.invariant start.requires.1 start.requires.2 start.requires.3
     c.loop-at-test.true
-    (sym c.is_digit-digit.ensures ∙ not-false _
-    c.if-not-digit.false) (eqb-false _ _ c.if-full.false)
+    (sym c.is_digit-digit.ensures ∙ c.if-not-digit.false) (c.if-full.false)
     checked.result checked.ensures _ c.in-Broken.is
 
 enum_known-next : tie.Need-enum_known-next invariant-loop decreases-loop
@@ -105,16 +104,16 @@ add-bytes c =
       arith,
       (counts_small a.text.now a.start a.row a.before turn.at turn.count turn.bytes
           turn.size turn.invariant start.requires.1 start.requires.2 start.requires.3 test.true
-          (sym is_digit.ensures ∙ not-false _ if1.false) (eqb-false _ _ if2.false) checked.result checked.ensures
+          (sym is_digit.ensures ∙ if1.false) (if2.false) checked.result checked.ensures
           got.next got.length got.sum got.last got.is).0,
       (value_lies a.text.now a.start a.row a.before turn.at turn.count turn.bytes turn.size
           turn.invariant start.requires.1 start.requires.2 start.requires.3 test.true
-          (sym is_digit.ensures ∙ not-false _ if1.false) (eqb-false _ _ if2.false) checked.result checked.ensures
+          (sym is_digit.ensures ∙ if1.false) (if2.false) checked.result checked.ensures
           got.next got.length got.sum got.last got.is).1,
       start.well_formed,
       whole_fits a.text.now a.start a.row a.before turn.at turn.count turn.bytes
           turn.size turn.invariant start.requires.1 start.requires.2 start.requires.3 test.true
-          (sym is_digit.ensures ∙ not-false _ if1.false) (eqb-false _ _ if2.false) checked.result checked.ensures
+          (sym is_digit.ensures ∙ if1.false) (if2.false) checked.result checked.ensures
           got.next got.length got.sum got.last got.is,
     )
 
@@ -128,9 +127,8 @@ returns-4 c =
     values_last a.text.now a.start a.row a.before turn.at turn.count turn.bytes turn.size
     turn.invariant start.requires.1 start.requires.2 start.requires.3
     c.loop-at-test.true
-    (sym c.is_digit-digit.ensures ∙ not-false _
-    c.if-not-digit.false)
-    (eqb-false _ _ c.if-full.false) checked.result checked.ensures got.next
+    (sym c.is_digit-digit.ensures ∙ c.if-not-digit.false)
+    (c.if-full.false) checked.result checked.ensures got.next
     got.length got.sum got.last got.is c.if-last.true
 
 loop-less : tie.Need-loop-at-smaller invariant-loop decreases-loop
@@ -148,11 +146,11 @@ loop-less c =
       arith,
       (value_lies a.text.now a.start a.row a.before turn.at turn.count turn.bytes
           turn.size turn.invariant start.requires.1 start.requires.2 start.requires.3 test.true
-          (sym is_digit.ensures ∙ not-false _ if1.false) (eqb-false _ _ if2.false) checked.result checked.ensures
+          (sym is_digit.ensures ∙ if1.false) (if2.false) checked.result checked.ensures
           got.next got.length got.sum got.last got.is).0,
       (value_lies a.text.now a.start a.row a.before turn.at turn.count turn.bytes turn.size
           turn.invariant start.requires.1 start.requires.2 start.requires.3 test.true
-          (sym is_digit.ensures ∙ not-false _ if1.false) (eqb-false _ _ if2.false) checked.result checked.ensures
+          (sym is_digit.ensures ∙ if1.false) (if2.false) checked.result checked.ensures
           got.next got.length got.sum got.last got.is).1,
     )
 
@@ -166,9 +164,8 @@ loop-again c =
     values_more a.text.now a.start a.row a.before turn.at turn.count turn.bytes turn.size
     turn.invariant start.requires.1 start.requires.2 start.requires.3
     c.loop-at-test.true
-    (sym c.is_digit-digit.ensures ∙ not-false _
-    c.if-not-digit.false)
-    (eqb-false _ _ c.if-full.false) checked.result checked.ensures got.next
+    (sym c.is_digit-digit.ensures ∙ c.if-not-digit.false)
+    (c.if-full.false) checked.result checked.ensures got.next
     got.length got.sum got.last got.is c.if-last.false
 
 returns-5 : tie.Need-returns invariant-loop decreases-loop

@@ -23,7 +23,7 @@ returns-2 c =
     let start = c in
     let a = start.args in
     escape_high a.text.now a.at c.if-text-at.false _
-    c.capital_value-high.ensures _ c.high_fits.ensures (not-true _ c.if-not-high_fits.true)
+    c.capital_value-high.ensures _ c.high_fits.ensures (c.if-not-high_fits.true)
 
 add-second : tie.Need-overflow_add-second
 add-second c = search rules
@@ -34,7 +34,7 @@ returns-3 c =
     let a = start.args in
     escape_half a.text.now a.at c.if-text-at.false _
     c.capital_value-high.ensures _ c.high_fits.ensures
-    (not-false _ c.if-not-high_fits.false) c.if-text-second.true
+    (c.if-not-high_fits.false) c.if-text-second.true
 
 shared_slice_read-capital_value-2 : tie.Need-bounds-text-second
 shared_slice_read-capital_value-2 c = search rules
@@ -49,7 +49,7 @@ returns-4 c =
     escape_low a.text.now a.at c.if-text-at.false _
     c.capital_value-high.ensures _
     c.high_fits.ensures
-    (not-false _ c.if-not-high_fits.false) c.if-text-second.false _
+    (c.if-not-high_fits.false) c.if-text-second.false _
     c.capital_value-low.ensures c.if-low-gt15.true
 
 mul-is_escaped : tie.Need-overflow_mul-high
@@ -63,7 +63,7 @@ mul-is_escaped c =
       high_small a.text.now a.at
           c.if-text-at.false capital_value_lem.result
           capital_value_lem.ensures high_fits.result high_fits.ensures
-          (not-false _ c.if-not-high_fits.false),
+          (c.if-not-high_fits.false),
     )
 
 add-is_escaped : tie.Need-overflow_add-high
@@ -77,7 +77,7 @@ add-is_escaped c =
       high_small a.text.now a.at
           c.if-text-at.false capital_value_lem.result
           capital_value_lem.ensures high_fits.result high_fits.ensures
-          (not-false _ c.if-not-high_fits.false),
+          (c.if-not-high_fits.false),
     )
 
 cast-is_escaped : tie.Need-overflow_cast-high
@@ -91,7 +91,7 @@ cast-is_escaped c =
       high_small a.text.now a.at
           c.if-text-at.false capital_value_lem.result
           capital_value_lem.ensures high_fits.result high_fits.ensures
-          (not-false _ c.if-not-high_fits.false),
+          (c.if-not-high_fits.false),
     )
 
 is_escaped-requires : tie.Need-is_escaped-requires
@@ -105,9 +105,9 @@ returns-5 c =
     c.if-text-at.false _
     c.capital_value-high.ensures _
     c.high_fits.ensures
-    (not-false _ c.if-not-high_fits.false)
+    (c.if-not-high_fits.false)
     c.if-text-second.false _ c.capital_value-low.ensures
-    c.if-low-gt15.false _ c.is_escaped.ensures (not-true _ c.if-not-is_escaped.true)
+    c.if-low-gt15.false _ c.is_escaped.ensures (c.if-not-is_escaped.true)
 
 add-t6 : tie.Need-overflow_add-result
 add-t6 c = search rules
@@ -120,9 +120,9 @@ returns-6 c =
     c.if-text-at.false _
     c.capital_value-high.ensures _
     c.high_fits.ensures
-    (not-false _ c.if-not-high_fits.false)
+    (c.if-not-high_fits.false)
     c.if-text-second.false _ c.capital_value-low.ensures
-    c.if-low-gt15.false _ c.is_escaped.ensures (not-false _ c.if-not-is_escaped.false)
+    c.if-low-gt15.false _ c.is_escaped.ensures (c.if-not-is_escaped.false)
 
 pub place_escape_spec : {M : Type 1} → statement M
 place_escape_spec =

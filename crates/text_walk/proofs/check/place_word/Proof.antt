@@ -28,7 +28,7 @@ digit_fits-requires : tie.Need-digit_fits-requires invariant-loop decreases-loop
 digit_fits-requires c κs = omega arith
 
 returns-2 : tie.Need-returns-then-not-digit_fits invariant-loop decreases-loop
-returns-2 c = word_off _ _ _ _ _ c.loop-left.invariant c.loop-left-test.true c.if-text-at.false _ c.small_value.ensures _ c.digit_fits.ensures (not-true _ c.if-not-digit_fits.true)
+returns-2 c = word_off _ _ _ _ _ c.loop-left.invariant c.loop-left-test.true c.if-text-at.false _ c.small_value.ensures _ c.digit_fits.ensures (c.if-not-digit_fits.true)
 
 add_at : tie.Need-overflow_add-at invariant-loop decreases-loop
 add_at c = omega arith
@@ -40,7 +40,7 @@ loop-less : tie.Need-loop-left-smaller invariant-loop decreases-loop
 loop-less c = omega arith
 
 loop-again : tie.Need-loop-left-preserved invariant-loop decreases-loop
-loop-again c = word_on _ _ _ _ _ c.loop-left.invariant c.loop-left-test.true c.if-text-at.false _ c.small_value.ensures _ c.digit_fits.ensures (not-false _ c.if-not-digit_fits.false)
+loop-again c = word_on _ _ _ _ _ c.loop-left.invariant c.loop-left-test.true c.if-text-at.false _ c.small_value.ensures _ c.digit_fits.ensures (c.if-not-digit_fits.false)
 
 returns-3 : tie.Need-returns invariant-loop decreases-loop
 returns-3 c = word_done _ _ _ _ _ c.loop-left.invariant c.loop-left-test.false

@@ -5,19 +5,19 @@ use Rattle.text_form.specs.Form.{capital}
 use Rattle.text_write.proofs.spell.capital_digit.Statement.{statement}
 use Rattle.text_write.proofs.spell.capital_digit.Tie as tie
 
-add-result : tie.Need-overflow-add-result
+add-result : tie.Need-overflow_add-result
 add-result c = search rules
 
-add-result-2 : tie.Need-overflow-add-result-2
+add-result-2 : tie.Need-overflow_add-result-else-value-lt10
 add-result-2 c = search rules
 
-returns : tie.Need-returns
+returns : tie.Need-returns-then-value-lt10
 unfolding capital
-returns c = simp (lt-ltb _ _ c.if1.true)
+returns c = simp (lt-ltb _ _ c.if-value-lt10.true)
 
-returns-2 : tie.Need-returns-2
+returns-2 : tie.Need-returns-else-value-lt10
 unfolding capital
-returns-2 c = simp (le-ltb _ _ c.if1.false)
+returns-2 c = simp (le-ltb _ _ c.if-value-lt10.false)
 
-pub capital-digit-spec : {M : Type 1} → statement M
-capital-digit-spec = tie.close (tie.spec add-result add-result-2 returns returns-2)
+pub capital_digit_spec : {M : Type 1} → statement M
+capital_digit_spec = tie.close (tie.spec add-result add-result-2 returns returns-2)

@@ -6,95 +6,95 @@ use borrow.Author.Rules.{rules}
 use Rattle.text_write.proofs.write.write_head.Statement.{statement}
 use Rattle.text_write.proofs.write.write_head.Tie as tie
 
-write-decimal-requires : tie.Need-write-decimal-requires
-write-decimal-requires c κs = search rules
+write_decimal-requires : tie.Need-write_decimal-colon-requires
+write_decimal-requires c κs = search rules
 
-slice-write-out : tie.Need-slice-write-out
-slice-write-out c =
-    let start = c.before.before.before.before.before in
-    omega (arith, colon_within start.args.id start.args.aggregate start.args.mark start.args.out.now start.requires c.before.before.write-decimal.result c.before.before.write-decimal.ensures.0 c.before.before.write-decimal.new.0 c.before.before.write-decimal.ensures.1)
+slice_write-out : tie.Need-bounds-out-colon
+slice_write-out c =
+    let start = c in
+    omega (arith, colon_within start.args.id start.args.aggregate start.args.mark start.args.out.now start.requires c.write_decimal-colon.result c.write_decimal-colon.ensures.0 c.write_decimal-colon.new.out c.write_decimal-colon.ensures.1)
 
-add-out : tie.Need-overflow-add-out
+add-out : tie.Need-overflow_add-out
 add-out c =
-    let start = c.before.before.before.before.before.before in
-    let write-decimal = c.before.before.before.write-decimal in
-    omega (arith, colon_within start.args.id start.args.aggregate start.args.mark start.args.out.now start.requires write-decimal.result write-decimal.ensures.0 write-decimal.new.0 write-decimal.ensures.1, start.well-formed)
+    let start = c in
+    let write-decimal = c.write_decimal-colon in
+    omega (arith, colon_within start.args.id start.args.aggregate start.args.mark start.args.out.now start.requires write-decimal.result write-decimal.ensures.0 write-decimal.new.out write-decimal.ensures.1, start.well_formed)
 
-slice-write-out-2 : tie.Need-slice-write-out-2
-slice-write-out-2 c =
-    let start = c.before.before.before.before.before.before in
-    let write-decimal = c.before.before.before.write-decimal in
-    simp length-set (omega (arith, colon_within start.args.id start.args.aggregate start.args.mark start.args.out.now start.requires write-decimal.result write-decimal.ensures.0 write-decimal.new.0 write-decimal.ensures.1))
+slice_write-out-2 : tie.Need-bounds-out-colon-then-aggregate-eq0
+slice_write-out-2 c =
+    let start = c in
+    let write-decimal = c.write_decimal-colon in
+    simp length-set (omega (arith, colon_within start.args.id start.args.aggregate start.args.mark start.args.out.now start.requires write-decimal.result write-decimal.ensures.0 write-decimal.new.out write-decimal.ensures.1))
 
-add-result : tie.Need-overflow-add-result
+add-result : tie.Need-overflow_add-result
 add-result c =
-    let start = c.before.before.before.before.before.before in
-    let write-decimal = c.before.before.before.write-decimal in
-    omega (arith, colon_within start.args.id start.args.aggregate start.args.mark start.args.out.now start.requires write-decimal.result write-decimal.ensures.0 write-decimal.new.0 write-decimal.ensures.1, start.well-formed)
+    let start = c in
+    let write-decimal = c.write_decimal-colon in
+    omega (arith, colon_within start.args.id start.args.aggregate start.args.mark start.args.out.now start.requires write-decimal.result write-decimal.ensures.0 write-decimal.new.out write-decimal.ensures.1, start.well_formed)
 
-same_length : tie.Need-same-length
+same_length : tie.Need-shape_of-out-then-aggregate-eq0
 same_length c = search rules
 
-returns : tie.Need-returns
+returns : tie.Need-returns-then-aggregate-eq0
 returns c =
-    let start = c.before.before.before.before.before.before in
-    let write-decimal = c.before.before.before.write-decimal in
-    plain_puts start.args.id start.args.aggregate start.args.mark start.args.out.now start.requires write-decimal.result write-decimal.ensures.0 write-decimal.new.0 write-decimal.ensures.1 c.if1.true
+    let start = c in
+    let write-decimal = c.write_decimal-colon in
+    plain_puts start.args.id start.args.aggregate start.args.mark start.args.out.now start.requires write-decimal.result write-decimal.ensures.0 write-decimal.new.out write-decimal.ensures.1 c.if-aggregate-eq0.true
 
-add-out-2 : tie.Need-overflow-add-out-2
+add-out-2 : tie.Need-overflow_add-out-2
 add-out-2 c =
-    let start = c.before.before.before.before.before.before in
-    let write-decimal = c.before.before.before.write-decimal in
-    omega (arith, colon_within start.args.id start.args.aggregate start.args.mark start.args.out.now start.requires write-decimal.result write-decimal.ensures.0 write-decimal.new.0 write-decimal.ensures.1, start.well-formed)
+    let start = c in
+    let write-decimal = c.write_decimal-colon in
+    omega (arith, colon_within start.args.id start.args.aggregate start.args.mark start.args.out.now start.requires write-decimal.result write-decimal.ensures.0 write-decimal.new.out write-decimal.ensures.1, start.well_formed)
 
-slice-write-out-3 : tie.Need-slice-write-out-3
-slice-write-out-3 c =
-    let start = c.before.before.before.before.before.before in
-    let write-decimal = c.before.before.before.write-decimal in
-    simp length-set (omega (arith, colon_within start.args.id start.args.aggregate start.args.mark start.args.out.now start.requires write-decimal.result write-decimal.ensures.0 write-decimal.new.0 write-decimal.ensures.1))
+slice_write-out-3 : tie.Need-bounds-out-colon-2
+slice_write-out-3 c =
+    let start = c in
+    let write-decimal = c.write_decimal-colon in
+    simp length-set (omega (arith, colon_within start.args.id start.args.aggregate start.args.mark start.args.out.now start.requires write-decimal.result write-decimal.ensures.0 write-decimal.new.out write-decimal.ensures.1))
 
-add-out-3 : tie.Need-overflow-add-out-3
+add-out-3 : tie.Need-overflow_add-out-3
 add-out-3 c =
-    let start = c.before.before.before.before.before.before in
-    let write-decimal = c.before.before.before.write-decimal in
-    omega (arith, sign_within start.args.id start.args.aggregate start.args.mark start.args.out.now start.requires write-decimal.result write-decimal.ensures.0 write-decimal.new.0 write-decimal.ensures.1 c.if1.false, start.well-formed)
+    let start = c in
+    let write-decimal = c.write_decimal-colon in
+    omega (arith, sign_within start.args.id start.args.aggregate start.args.mark start.args.out.now start.requires write-decimal.result write-decimal.ensures.0 write-decimal.new.out write-decimal.ensures.1 c.if-aggregate-eq0.false, start.well_formed)
 
-slice-write-out-4 : tie.Need-slice-write-out-4
-slice-write-out-4 c =
-    let start = c.before.before.before.before.before.before in
-    let write-decimal = c.before.before.before.write-decimal in
-    simp length-set (omega (arith, sign_within start.args.id start.args.aggregate start.args.mark start.args.out.now start.requires write-decimal.result write-decimal.ensures.0 write-decimal.new.0 write-decimal.ensures.1 c.if1.false))
+slice_write-out-4 : tie.Need-bounds-out-colon-3
+slice_write-out-4 c =
+    let start = c in
+    let write-decimal = c.write_decimal-colon in
+    simp length-set (omega (arith, sign_within start.args.id start.args.aggregate start.args.mark start.args.out.now start.requires write-decimal.result write-decimal.ensures.0 write-decimal.new.out write-decimal.ensures.1 c.if-aggregate-eq0.false))
 
-add-result-2 : tie.Need-overflow-add-result-2
+add-result-2 : tie.Need-overflow_add-result-2
 add-result-2 c =
-    let start = c.before.before.before.before.before.before in
-    let write-decimal = c.before.before.before.write-decimal in
-    omega (arith, sign_within start.args.id start.args.aggregate start.args.mark start.args.out.now start.requires write-decimal.result write-decimal.ensures.0 write-decimal.new.0 write-decimal.ensures.1 c.if1.false, start.well-formed)
+    let start = c in
+    let write-decimal = c.write_decimal-colon in
+    omega (arith, sign_within start.args.id start.args.aggregate start.args.mark start.args.out.now start.requires write-decimal.result write-decimal.ensures.0 write-decimal.new.out write-decimal.ensures.1 c.if-aggregate-eq0.false, start.well_formed)
 
-same-length-2 : tie.Need-same-length-2
-same-length-2 c = search rules
+same_length-2 : tie.Need-shape_of-out
+same_length-2 c = search rules
 
-returns-2 : tie.Need-returns-2
+returns-2 : tie.Need-returns
 returns-2 c =
-    let start = c.before.before.before.before.before.before in
-    let write-decimal = c.before.before.before.write-decimal in
-    signed_puts start.args.id start.args.aggregate start.args.mark start.args.out.now start.requires write-decimal.result write-decimal.ensures.0 write-decimal.new.0 write-decimal.ensures.1 c.if1.false
+    let start = c in
+    let write-decimal = c.write_decimal-colon in
+    signed_puts start.args.id start.args.aggregate start.args.mark start.args.out.now start.requires write-decimal.result write-decimal.ensures.0 write-decimal.new.out write-decimal.ensures.1 c.if-aggregate-eq0.false
 
-pub write-head-spec : {M : Type 1} → statement M
-write-head-spec =
+pub write_head_spec : {M : Type 1} → statement M
+write_head_spec =
     tie.close
     (tie.spec
-    write-decimal-requires
-    slice-write-out
+    write_decimal-requires
+    slice_write-out
     add-out
-    slice-write-out-2
+    slice_write-out-2
     add-result
     same_length
     returns
     add-out-2
-    slice-write-out-3
+    slice_write-out-3
     add-out-3
-    slice-write-out-4
+    slice_write-out-4
     add-result-2
-    same-length-2
+    same_length-2
     returns-2)

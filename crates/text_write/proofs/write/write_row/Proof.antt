@@ -9,59 +9,59 @@ use borrow.Author.Rules.{rules}
 use Rattle.text_write.proofs.write.write_row.Statement.{statement}
 use Rattle.text_write.proofs.write.write_row.Tie as tie
 
-slice-write-out : tie.Need-slice-write-out
-slice-write-out c =
-    let start' = c.before.before.before.before in
-    omega (arith, line_within start'.args.out.now _ _ (row_null start'.args.area.now start'.args.values.now start'.args.count start'.args.k c.if1.true) start'.requires.3)
+slice_write-out : tie.Need-bounds-out-0
+slice_write-out c =
+    let start' = c in
+    omega (arith, line_within start'.args.out.now _ _ (row_null start'.args.area.now start'.args.values.now start'.args.count start'.args.k c.if-count-eq-NULL_ROW_MARKER.true) start'.requires.3)
 
-slice-write-out-2 : tie.Need-slice-write-out-2
-slice-write-out-2 c =
-    let start' = c.before.before.before.before in
-    simp length-set (omega (arith, line_within start'.args.out.now _ _ (row_null start'.args.area.now start'.args.values.now start'.args.count start'.args.k c.if1.true) start'.requires.3))
+slice_write-out-2 : tie.Need-bounds-out-1
+slice_write-out-2 c =
+    let start' = c in
+    simp length-set (omega (arith, line_within start'.args.out.now _ _ (row_null start'.args.area.now start'.args.values.now start'.args.count start'.args.k c.if-count-eq-NULL_ROW_MARKER.true) start'.requires.3))
 
-same_length : tie.Need-same-length
+same_length : tie.Need-shape_of-out-then-count-eq-NULL_ROW_MARKER
 same_length c = search rules
 
-returns : tie.Need-returns
+returns : tie.Need-returns-then-count-eq-NULL_ROW_MARKER
 returns c =
-    let start' = c.before.before.before.before in
-    null_line start'.args.out.now _ (row_null start'.args.area.now start'.args.values.now start'.args.count start'.args.k c.if1.true) start'.requires.3
+    let start' = c in
+    null_line start'.args.out.now _ (row_null start'.args.area.now start'.args.values.now start'.args.count start'.args.k c.if-count-eq-NULL_ROW_MARKER.true) start'.requires.3
 
-slice-write-out-3 : tie.Need-slice-write-out-3
-slice-write-out-3 c =
-    let start' = c.before.before.before.before.before in
-    omega (arith, line_within start'.args.out.now _ _ (row_empty start'.args.area.now start'.args.values.now start'.args.count start'.args.k c.if2.true) start'.requires.3)
+slice_write-out-3 : tie.Need-bounds-out-0-then-count-eq0
+slice_write-out-3 c =
+    let start' = c in
+    omega (arith, line_within start'.args.out.now _ _ (row_empty start'.args.area.now start'.args.values.now start'.args.count start'.args.k c.if-count-eq0.true) start'.requires.3)
 
-same-length-2 : tie.Need-same-length-2
-same-length-2 c = search rules
+same_length-2 : tie.Need-shape_of-out-then-count-eq0
+same_length-2 c = search rules
 
-returns-2 : tie.Need-returns-2
+returns-2 : tie.Need-returns-then-count-eq0
 returns-2 c =
-    let start' = c.before.before.before.before.before in
-    empty_line start'.args.out.now _ (row_empty start'.args.area.now start'.args.values.now start'.args.count start'.args.k c.if2.true) start'.requires.3
+    let start' = c in
+    empty_line start'.args.out.now _ (row_empty start'.args.area.now start'.args.values.now start'.args.count start'.args.k c.if-count-eq0.true) start'.requires.3
 
-write-values-requires : tie.Need-write-values-requires
-write-values-requires c κs = let start = c.before.before.before.before.before.before in (start.requires.0, start.requires.1, omega (arith, start.requires.2, row_count start.args.count c.before.before.if1.false), omega (arith, ap length (row_values start.args.area.now start.args.values.now start.args.count start.args.k c.before.before.if1.false c.before.if2.false), start.requires.3))
+write_values-requires : tie.Need-write_values-requires
+write_values-requires c κs = let start = c in (start.requires.0, start.requires.1, omega (arith, start.requires.2, row_count start.args.count c.if-count-eq-NULL_ROW_MARKER.false), omega (arith, ap length (row_values start.args.area.now start.args.values.now start.args.count start.args.k c.if-count-eq-NULL_ROW_MARKER.false c.if-count-eq0.false), start.requires.3))
 
-same-length-3 : tie.Need-same-length-3
-same-length-3 c = search rules
+same_length-3 : tie.Need-shape_of-out
+same_length-3 c = search rules
 
-returns-3 : tie.Need-returns-3
+returns-3 : tie.Need-returns
 returns-3 c =
-    let start' = c.before.before.before.before.before.before.before.before.before in
-    same_puts _ _ _ _ _ (row_values start'.args.area.now start'.args.values.now start'.args.count start'.args.k c.before.before.before.before.before.if1.false c.before.before.before.before.if2.false) c.before.before.write-values.ensures
+    let start' = c in
+    same_puts _ _ _ _ _ (row_values start'.args.area.now start'.args.values.now start'.args.count start'.args.k c.if-count-eq-NULL_ROW_MARKER.false c.if-count-eq0.false) c.write_values.ensures
 
-pub write-row-spec : {M : Type 1} → statement M
-write-row-spec =
+pub write_row_spec : {M : Type 1} → statement M
+write_row_spec =
     tie.close
     (tie.spec
-    slice-write-out
-    slice-write-out-2
+    slice_write-out
+    slice_write-out-2
     same_length
     returns
-    slice-write-out-3
-    same-length-2
+    slice_write-out-3
+    same_length-2
     returns-2
-    write-values-requires
-    same-length-3
+    write_values-requires
+    same_length-3
     returns-3)

@@ -7,63 +7,63 @@ use borrow.Author.Rules.{rules}
 use Rattle.text_write.proofs.write.write_unit.Statement.{statement}
 use Rattle.text_write.proofs.write.write_unit.Tie as tie
 
-is-escaped-requires : tie.Need-is-escaped-requires
-is-escaped-requires c κs = search rules
+is_escaped-requires : tie.Need-is_escaped-requires
+is_escaped-requires c κs = search rules
 
-slice-write-out : tie.Need-slice-write-out
-slice-write-out c =
-    let start = c.before.before.before in
-    omega (arith, escape_within start.args.byte start.args.out.now start.requires (sym c.before.is-escaped.ensures ∙ c.if1.true))
+slice_write-out : tie.Need-bounds-out-0
+slice_write-out c =
+    let start = c in
+    omega (arith, escape_within start.args.byte start.args.out.now start.requires (sym c.is_escaped.ensures ∙ c.if-is_escaped.true))
 
-capital-digit-requires : tie.Need-capital-digit-requires
-capital-digit-requires c κs = search rules
+capital_digit-requires : tie.Need-capital_digit-requires
+capital_digit-requires c κs = search rules
 
-slice-write-out-2 : tie.Need-slice-write-out-2
-slice-write-out-2 c =
-    let start = c.before.before.before.before in
-    simp length-set (omega (arith, escape_within start.args.byte start.args.out.now start.requires (sym c.before.before.is-escaped.ensures ∙ c.before.if1.true)))
+slice_write-out-2 : tie.Need-bounds-out-1
+slice_write-out-2 c =
+    let start = c in
+    simp length-set (omega (arith, escape_within start.args.byte start.args.out.now start.requires (sym c.is_escaped.ensures ∙ c.if-is_escaped.true)))
 
-capital-digit-requires-2 : tie.Need-capital-digit-requires-2
-capital-digit-requires-2 c κs = search rules
+capital_digit-requires-2 : tie.Need-capital_digit-requires-then-is_escaped
+capital_digit-requires-2 c κs = search rules
 
-slice-write-out-3 : tie.Need-slice-write-out-3
-slice-write-out-3 c =
-    let start = c.before.before.before.before.before in
-    simp length-set (omega (arith, escape_within start.args.byte start.args.out.now start.requires (sym c.before.before.before.is-escaped.ensures ∙ c.before.before.if1.true)))
+slice_write-out-3 : tie.Need-bounds-out-2
+slice_write-out-3 c =
+    let start = c in
+    simp length-set (omega (arith, escape_within start.args.byte start.args.out.now start.requires (sym c.is_escaped.ensures ∙ c.if-is_escaped.true)))
 
-same_length : tie.Need-same-length
+same_length : tie.Need-shape_of-out-then-is_escaped
 same_length c = search rules
 
-returns : tie.Need-returns
+returns : tie.Need-returns-then-is_escaped
 returns c =
-    let start = c.before.before.before.before.before in
-    escape_puts start.args.byte start.args.out.now start.requires (sym c.before.before.before.is-escaped.ensures ∙ c.before.before.if1.true) _ _ c.before.capital-digit.ensures c.capital-digit2.ensures
+    let start = c in
+    escape_puts start.args.byte start.args.out.now start.requires (sym c.is_escaped.ensures ∙ c.if-is_escaped.true) _ _ c.capital_digit.ensures c.capital_digit-then-is_escaped.ensures
 
-slice-write-out-4 : tie.Need-slice-write-out-4
-slice-write-out-4 c =
-    let start = c.before.before.before in
-    omega (arith, itself_within start.args.byte start.args.out.now start.requires (sym c.before.is-escaped.ensures ∙ c.if1.false))
+slice_write-out-4 : tie.Need-bounds-out-0-2
+slice_write-out-4 c =
+    let start = c in
+    omega (arith, itself_within start.args.byte start.args.out.now start.requires (sym c.is_escaped.ensures ∙ c.if-is_escaped.false))
 
-same-length-2 : tie.Need-same-length-2
-same-length-2 c = search rules
+same_length-2 : tie.Need-shape_of-out
+same_length-2 c = search rules
 
-returns-2 : tie.Need-returns-2
+returns-2 : tie.Need-returns
 returns-2 c =
-    let start = c.before.before.before in
-    itself_puts start.args.byte start.args.out.now start.requires (sym c.before.is-escaped.ensures ∙ c.if1.false)
+    let start = c in
+    itself_puts start.args.byte start.args.out.now start.requires (sym c.is_escaped.ensures ∙ c.if-is_escaped.false)
 
-pub write-unit-spec : {M : Type 1} → statement M
-write-unit-spec =
+pub write_unit_spec : {M : Type 1} → statement M
+write_unit_spec =
     tie.close
     (tie.spec
-    is-escaped-requires
-    slice-write-out
-    capital-digit-requires
-    slice-write-out-2
-    capital-digit-requires-2
-    slice-write-out-3
+    is_escaped-requires
+    slice_write-out
+    capital_digit-requires
+    slice_write-out-2
+    capital_digit-requires-2
+    slice_write-out-3
     same_length
     returns
-    slice-write-out-4
-    same-length-2
+    slice_write-out-4
+    same_length-2
     returns-2)

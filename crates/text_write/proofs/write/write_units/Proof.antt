@@ -8,60 +8,60 @@ use borrow.Author.Rules.{rules}
 use Rattle.text_write.proofs.write.write_units.Statement.{statement}
 use Rattle.text_write.proofs.write.write_units.Tie as tie
 
-abbrev invariant-loop : tie.invariant-loop
+abbrev invariant-loop : tie.invariant-loop-i
 invariant-loop bytes out₀ at₀ i₀ out at i = UnitsToGo bytes out₀ out at i
 
-abbrev decreases-loop : tie.decreases-loop
+abbrev decreases-loop : tie.decreases-loop-i
 decreases-loop bytes out₀ at₀ i₀ out at i = length bytes - i
 
-loop-holds : tie.Need-loop-init invariant-loop decreases-loop
-loop-holds c = units_start _ _ c.before.before.requires
+loop-holds : tie.Need-loop-i-init invariant-loop decreases-loop
+loop-holds c = units_start _ _ c.requires
 
-shared-slice-read-write-unit : tie.Need-shared-slice-read-write-unit invariant-loop decreases-loop
-shared-slice-read-write-unit c = omega arith
+shared_slice_read-write_unit : tie.Need-bounds-bytes-i invariant-loop decreases-loop
+shared_slice_read-write_unit c = omega arith
 
-sub-write-unit : tie.Need-overflow-sub-write-unit invariant-loop decreases-loop
-sub-write-unit c = unit_within _ _ _ _ _ c.before.before.loop.invariant c.before.loop-test.true
+sub-write_unit : tie.Need-slice_bounds-write_unit-count invariant-loop decreases-loop
+sub-write_unit c = unit_within _ _ _ _ _ c.loop-i.invariant c.loop-i-test.true
 
-part-write-unit-start : tie.Need-slice-bounds-write-unit-start invariant-loop decreases-loop
-part-write-unit-start c = unit_within _ _ _ _ _ c.before.before.loop.invariant c.before.loop-test.true
+part-write_unit-start : tie.Need-slice_bounds-write_unit-start invariant-loop decreases-loop
+part-write_unit-start c = unit_within _ _ _ _ _ c.loop-i.invariant c.loop-i-test.true
 
-part-write-unit-end : tie.Need-slice-bounds-write-unit-end invariant-loop decreases-loop
-part-write-unit-end c = search rules
+part-write_unit-end : tie.Need-slice_bounds-write_unit-end invariant-loop decreases-loop
+part-write_unit-end c = search rules
 
-write-unit-requires : tie.Need-write-unit-requires invariant-loop decreases-loop
-write-unit-requires c κs = unit_room _ _ _ _ _ c.before.before.before.loop.invariant c.before.before.loop-test.true
+write_unit-requires : tie.Need-write_unit-at-requires invariant-loop decreases-loop
+write_unit-requires c κs = unit_room _ _ _ _ _ c.loop-i.invariant c.loop-i-test.true
 
-add_at : tie.Need-overflow-add-at invariant-loop decreases-loop
-add_at c = omega (arith, room_left (units_step _ _ _ _ _ c.before.before.before.before.before.before.loop.invariant c.before.before.before.before.before.loop-test.true c.before.before.write-unit.new.1.0 c.before.before.write-unit.result c.before.before.write-unit.ensures), c.before.before.before.before.before.before.before.before.before.well-formed)
+add_at : tie.Need-overflow_add-at invariant-loop decreases-loop
+add_at c = omega (arith, room_left (units_step _ _ _ _ _ c.loop-i.invariant c.loop-i-test.true c.write_unit-at.new.out c.write_unit-at.result c.write_unit-at.ensures), c.well_formed)
 
-add-i : tie.Need-overflow-add-i invariant-loop decreases-loop
+add-i : tie.Need-overflow_add-i invariant-loop decreases-loop
 add-i c = omega arith
 
-loop-less : tie.Need-loop-smaller invariant-loop decreases-loop
+loop-less : tie.Need-loop-i-smaller invariant-loop decreases-loop
 loop-less c = omega arith
 
-loop-again : tie.Need-loop-preserved invariant-loop decreases-loop
-loop-again c = units_step _ _ _ _ _ c.before.before.before.before.before.before.loop.invariant c.before.before.before.before.before.loop-test.true c.before.before.write-unit.new.1.0 c.before.before.write-unit.result c.before.before.write-unit.ensures
+loop-again : tie.Need-loop-i-preserved invariant-loop decreases-loop
+loop-again c = units_step _ _ _ _ _ c.loop-i.invariant c.loop-i-test.true c.write_unit-at.new.out c.write_unit-at.result c.write_unit-at.ensures
 
-same_length : tie.Need-same-length invariant-loop decreases-loop
-same_length c = length_now c.before.loop.invariant
+same_length : tie.Need-shape_of-out invariant-loop decreases-loop
+same_length c = length_now c.loop-i.invariant
 
 returns : tie.Need-returns invariant-loop decreases-loop
-returns c = units_done _ _ _ _ _ c.before.loop.invariant c.loop-test.false
+returns c = units_done _ _ _ _ _ c.loop-i.invariant c.loop-i-test.false
 
-pub write-units-spec : {M : Type 1} → statement M
-write-units-spec =
+pub write_units_spec : {M : Type 1} → statement M
+write_units_spec =
     tie.close
     (tie.spec
     invariant-loop
     decreases-loop
     loop-holds
-    shared-slice-read-write-unit
-    sub-write-unit
-    part-write-unit-start
-    part-write-unit-end
-    write-unit-requires
+    shared_slice_read-write_unit
+    sub-write_unit
+    part-write_unit-start
+    part-write_unit-end
+    write_unit-requires
     add_at
     add-i
     loop-less

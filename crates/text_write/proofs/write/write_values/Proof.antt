@@ -6,84 +6,84 @@ use borrow.Author.Rules.{rules}
 use Rattle.text_write.proofs.write.write_values.Statement.{statement}
 use Rattle.text_write.proofs.write.write_values.Tie as tie
 
-abbrev invariant-loop : tie.invariant-loop
+abbrev invariant-loop : tie.invariant-loop-left
 invariant-loop area values start count out₀ at₀ k₀ left₀ out at k left = ValuesToGo area values start count out₀ out at k left
 
-abbrev decreases-loop : tie.decreases-loop
+abbrev decreases-loop : tie.decreases-loop-left
 decreases-loop area values start count out₀ at₀ k₀ left₀ out at k left = left
 
-loop-holds : tie.Need-loop-init invariant-loop decreases-loop
+loop-holds : tie.Need-loop-left-init invariant-loop decreases-loop
 loop-holds c =
-    let start' = c.before.before.before in
+    let start' = c in
     (start'.requires.1, start'.requires.2, begins _ _ start'.requires.3)
 
-sub-write-entry : tie.Need-overflow-sub-write-entry invariant-loop decreases-loop
-sub-write-entry c = entry_within _ _ _ _ _ _ _ _ _ c.before.loop.invariant c.loop-test.true
+sub-write_entry : tie.Need-slice_bounds-write_entry-count invariant-loop decreases-loop
+sub-write_entry c = entry_within _ _ _ _ _ _ _ _ _ c.loop-left.invariant c.loop-left-test.true
 
-part-write-entry-start : tie.Need-slice-bounds-write-entry-start invariant-loop decreases-loop
-part-write-entry-start c = entry_within _ _ _ _ _ _ _ _ _ c.before.loop.invariant c.loop-test.true
+part-write_entry-start : tie.Need-slice_bounds-write_entry-start invariant-loop decreases-loop
+part-write_entry-start c = entry_within _ _ _ _ _ _ _ _ _ c.loop-left.invariant c.loop-left-test.true
 
-part-write-entry-end : tie.Need-slice-bounds-write-entry-end invariant-loop decreases-loop
-part-write-entry-end c = search rules
+part-write_entry-end : tie.Need-slice_bounds-write_entry-end invariant-loop decreases-loop
+part-write_entry-end c = search rules
 
-write-entry-requires : tie.Need-write-entry-requires invariant-loop decreases-loop
-write-entry-requires c κs = (omega arith, c.before.before.before.before.before.before.requires.0 c.before.before.loop.k (omega arith) (omega arith), entry_room _ _ _ _ _ _ _ _ _ c.before.before.loop.invariant c.before.loop-test.true)
+write_entry-requires : tie.Need-write_entry-at-requires invariant-loop decreases-loop
+write_entry-requires c κs = (omega arith, c.requires.0 c.loop-left.k (omega arith) (omega arith), entry_room _ _ _ _ _ _ _ _ _ c.loop-left.invariant c.loop-left-test.true)
 
-add_at : tie.Need-overflow-add-at invariant-loop decreases-loop
+add_at : tie.Need-overflow_add-at invariant-loop decreases-loop
 add_at c =
-    let turn = c.before.before.before.before.before in
-    let loop-test = c.before.before.before.before.loop-test in
-    omega (arith, separator_within _ _ _ _ _ _ _ _ _ turn.loop.invariant loop-test.true c.before.before.write-entry.new.1.1.1.0 c.before.before.write-entry.result c.before.before.write-entry.ensures, separator_length _ _ _ _ _ _ _ _ _ turn.loop.invariant loop-test.true c.before.before.write-entry.new.1.1.1.0 c.before.before.write-entry.result c.before.before.write-entry.ensures, c.before.before.before.before.before.before.before.before.before.well-formed)
+    let turn = c in
+    let loop-test = c.loop-left-test in
+    omega (arith, separator_within _ _ _ _ _ _ _ _ _ turn.loop-left.invariant loop-test.true c.write_entry-at.new.out c.write_entry-at.result c.write_entry-at.ensures, separator_length _ _ _ _ _ _ _ _ _ turn.loop-left.invariant loop-test.true c.write_entry-at.new.out c.write_entry-at.result c.write_entry-at.ensures, c.well_formed)
 
 separator-requires : tie.Need-separator-requires invariant-loop decreases-loop
 separator-requires c κs = search rules
 
-slice-write-out : tie.Need-slice-write-out invariant-loop decreases-loop
-slice-write-out c =
-    let write-entry = c.before.before.before.write-entry in
-    separator_within _ _ _ _ _ _ _ _ _ c.before.before.before.before.before.before.loop.invariant c.before.before.before.before.before.loop-test.true write-entry.new.1.1.1.0 write-entry.result write-entry.ensures
+slice_write-out : tie.Need-bounds-out-at invariant-loop decreases-loop
+slice_write-out c =
+    let write-entry = c.write_entry-at in
+    separator_within _ _ _ _ _ _ _ _ _ c.loop-left.invariant c.loop-left-test.true write-entry.new.out write-entry.result write-entry.ensures
 
-add-at-2 : tie.Need-overflow-add-at-2 invariant-loop decreases-loop
+add-at-2 : tie.Need-overflow_add-at-in-loop-left invariant-loop decreases-loop
 add-at-2 c =
-    let turn = c.before.before.before.before.before.before in
-    let loop-test = c.before.before.before.before.before.loop-test in
-    let write-entry = c.before.before.before.write-entry in
-    omega (arith, separator_within _ _ _ _ _ _ _ _ _ turn.loop.invariant loop-test.true write-entry.new.1.1.1.0 write-entry.result write-entry.ensures, separator_length _ _ _ _ _ _ _ _ _ turn.loop.invariant loop-test.true write-entry.new.1.1.1.0 write-entry.result write-entry.ensures, c.before.before.before.before.before.before.before.before.before.before.well-formed)
+    let turn = c in
+    let loop-test = c.loop-left-test in
+    let write-entry = c.write_entry-at in
+    omega (arith, separator_within _ _ _ _ _ _ _ _ _ turn.loop-left.invariant loop-test.true write-entry.new.out write-entry.result write-entry.ensures, separator_length _ _ _ _ _ _ _ _ _ turn.loop-left.invariant loop-test.true write-entry.new.out write-entry.result write-entry.ensures, c.well_formed)
 
-add-k : tie.Need-overflow-add-k invariant-loop decreases-loop
+add-k : tie.Need-overflow_add-k invariant-loop decreases-loop
 add-k c = omega arith
 
-sub-left : tie.Need-overflow-sub-left invariant-loop decreases-loop
+sub-left : tie.Need-overflow_sub-left invariant-loop decreases-loop
 sub-left c = omega arith
 
-loop-less : tie.Need-loop-smaller invariant-loop decreases-loop
+loop-less : tie.Need-loop-left-smaller invariant-loop decreases-loop
 loop-less c = omega arith
 
-loop-again : tie.Need-loop-preserved invariant-loop decreases-loop
+loop-again : tie.Need-loop-left-preserved invariant-loop decreases-loop
 loop-again c =
-    let write-entry = c.before.before.before.write-entry in
-    values_step _ _ _ _ _ _ _ _ _ c.before.before.before.before.before.before.loop.invariant c.before.before.before.before.before.loop-test.true write-entry.new.1.1.1.0 write-entry.result write-entry.ensures _ c.separator.ensures
+    let write-entry = c.write_entry-at in
+    values_step _ _ _ _ _ _ _ _ _ c.loop-left.invariant c.loop-left-test.true write-entry.new.out write-entry.result write-entry.ensures _ c.separator.ensures
 
-same_length : tie.Need-same-length invariant-loop decreases-loop
-same_length c = length_now c.before.loop.invariant.2
+same_length : tie.Need-shape_of-out invariant-loop decreases-loop
+same_length c = length_now c.loop-left.invariant.2
 
 returns : tie.Need-returns invariant-loop decreases-loop
-returns c = values_done _ _ _ _ _ _ _ _ _ c.before.loop.invariant c.loop-test.false
+returns c = values_done _ _ _ _ _ _ _ _ _ c.loop-left.invariant c.loop-left-test.false
 
-pub write-values-spec : {M : Type 1} → statement M
-write-values-spec =
+pub write_values_spec : {M : Type 1} → statement M
+write_values_spec =
     tie.close
     (tie.spec
     invariant-loop
     decreases-loop
     loop-holds
-    sub-write-entry
-    part-write-entry-start
-    part-write-entry-end
-    write-entry-requires
+    sub-write_entry
+    part-write_entry-start
+    part-write_entry-end
+    write_entry-requires
     add_at
     separator-requires
-    slice-write-out
+    slice_write-out
     add-at-2
     add-k
     sub-left

@@ -4,35 +4,35 @@ use borrow.Author.Rules.{rules}
 use Rattle.why_rowset.proofs.value.check_bytes.Statement.{statement}
 use Rattle.why_rowset.proofs.value.check_bytes.Tie as tie
 
-add-there : tie.Need-overflow-add-there
+add-there : tie.Need-overflow_add-there
 add-there c = search rules
 
-sub-there : tie.Need-overflow-sub-there
+sub-there : tie.Need-overflow_sub-there
 sub-there c = search rules
 
-add-short : tie.Need-overflow-add-short
+add-short : tie.Need-overflow_add-at
 add-short c = search rules
 
 short-requires : tie.Need-short-requires
 short-requires c κs = search rules
 
-returns : tie.Need-returns
+returns : tie.Need-returns-then-there-size
 returns c =
-    let start = c.before.before.before in
-    payload_short start.args.input.now start.args.at start.args.header start.requires.1 start.requires.0 start.args.field start.args.size start.requires.2 start.requires.3 c.short.result c.before.if1.true c.short.ensures
+    let start = c in
+    payload_short start.args.input.now start.args.at start.args.header start.requires.1 start.requires.0 start.args.field start.args.size start.requires.2 start.requires.3 c.short.result c.if-there-size.true c.short.ensures
 
-add-t7 : tie.Need-overflow-add-t7
+add-t7 : tie.Need-overflow_add-result
 add-t7 c = search rules
 
-add-t8 : tie.Need-overflow-add-t8
+add-t8 : tie.Need-overflow_add-result-2
 add-t8 c = search rules
 
-returns-2 : tie.Need-returns-2
+returns-2 : tie.Need-returns
 returns-2 c =
-    let start = c.before.before in
-    payload_passes start.args.input.now start.args.at start.args.header start.requires.1 start.requires.0 start.args.field start.args.size start.requires.2 start.requires.3 c.if1.false
+    let start = c in
+    payload_passes start.args.input.now start.args.at start.args.header start.requires.1 start.requires.0 start.args.field start.args.size start.requires.2 start.requires.3 c.if-there-size.false
 
-pub check-bytes-spec : {M : Type 1} → statement M
-check-bytes-spec =
+pub check_bytes_spec : {M : Type 1} → statement M
+check_bytes_spec =
     tie.close
     (tie.spec add-there sub-there add-short short-requires returns add-t7 add-t8 returns-2)

@@ -4,57 +4,57 @@ use borrow.Author.Rules.{rules}
 use Rattle.why_rowset.proofs.walk.walk_body.Statement.{statement}
 use Rattle.why_rowset.proofs.walk.walk_body.Tie as tie
 
-read-u64-requires : tie.Need-read-u64-requires
-read-u64-requires c κs = search rules
+read_u64-requires : tie.Need-read_u64-count-requires
+read_u64-requires c κs = search rules
 
 refused-requires : tie.Need-refused-requires
 refused-requires c κs = search rules
 
-returns : tie.Need-returns
+returns : tie.Need-returns-then-count-gt-MAX_ROWS_PER_ROWSET
 returns c =
-    let start = c.before.before.before.before in
-    head_many start.args.input.now start.requires _ c.before.before.read_u64.ensures c.refused.result c.before.if1.true c.refused.ensures
+    let start = c in
+    head_many start.args.input.now start.requires _ c.read_u64-count.ensures c.refused.result c.if-count-gt-MAX_ROWS_PER_ROWSET.true c.refused.ensures
 
-walk-rows-requires : tie.Need-walk-rows-requires
-walk-rows-requires c κs = search rules
+walk_rows-requires : tie.Need-walk_rows-requires
+walk_rows-requires c κs = search rules
 
-enum-known-finding : tie.Need-enum-known-finding
-enum-known-finding c = search rules
+enum_known-finding : tie.Need-enum_known-finding
+enum_known-finding c = search rules
 
-enum-known-end : tie.Need-enum-known-end
-enum-known-end c = search rules
+enum_known-end : tie.Need-enum_known-end
+enum_known-end c = search rules
 
-sub-left : tie.Need-overflow-sub-left
+sub-left : tie.Need-overflow_sub-left
 sub-left c = search rules
 
-refused-requires-2 : tie.Need-refused-requires-2
+refused-requires-2 : tie.Need-refused-requires-then-end-input
 refused-requires-2 c κs = search rules
 
-returns-2 : tie.Need-returns-2
+returns-2 : tie.Need-returns-then-end-input
 returns-2 c =
-    let start = c.before.before.before.before.before.before.before.before.before in
-    rowset_trailing start.args.input.now start.requires _ c.before.before.before.before.before.before.before.read_u64.ensures c.before.before.before.before.before.before.if1.false _ c.before.before.before.before.before.walk_rows.ensures _ _ c.before.before.before.end.given.1 c.refused2.result c.before.if2.true c.refused2.ensures
+    let start = c in
+    rowset_trailing start.args.input.now start.requires _ c.read_u64-count.ensures c.if-count-gt-MAX_ROWS_PER_ROWSET.false _ c.walk_rows.ensures _ _ c.in-At.is c.refused-then-end-input.result c.if-end-input.true c.refused-then-end-input.ensures
 
-returns-3 : tie.Need-returns-3
+returns-3 : tie.Need-returns-in-Found
 returns-3 c =
-    let start = c.before.before.before.before.before.before.before in
-    rowset_stop start.args.input.now start.requires _ c.before.before.before.before.before.read_u64.ensures c.before.before.before.before.if1.false _ c.before.before.before.walk_rows.ensures _ c.before.finding.given.1
+    let start = c in
+    rowset_stop start.args.input.now start.requires _ c.read_u64-count.ensures c.if-count-gt-MAX_ROWS_PER_ROWSET.false _ c.walk_rows.ensures _ c.in-Found.is
 
-returns-4 : tie.Need-returns-4
+returns-4 : tie.Need-returns-else-end-input
 returns-4 c =
-    let start = c.before.before.before.before.before.before.before.before in
-    rowset_end start.args.input.now start.requires _ c.before.before.before.before.before.before.read_u64.ensures c.before.before.before.before.before.if1.false _ c.before.before.before.before.walk_rows.ensures _ _ c.before.before.end.given.1 c.if2.false
+    let start = c in
+    rowset_end start.args.input.now start.requires _ c.read_u64-count.ensures c.if-count-gt-MAX_ROWS_PER_ROWSET.false _ c.walk_rows.ensures _ _ c.in-At.is c.if-end-input.false
 
-pub walk-body-spec : {M : Type 1} → statement M
-walk-body-spec =
+pub walk_body_spec : {M : Type 1} → statement M
+walk_body_spec =
     tie.close
     (tie.spec
-    read-u64-requires
+    read_u64-requires
     refused-requires
     returns
-    walk-rows-requires
-    enum-known-finding
-    enum-known-end
+    walk_rows-requires
+    enum_known-finding
+    enum_known-end
     sub-left
     refused-requires-2
     returns-2

@@ -7,16 +7,16 @@ use Rattle.why_rowset.proofs.walk.walk_rowset.Tie as tie
 short-requires : tie.Need-short-requires
 short-requires c κs = search rules
 
-returns : tie.Need-returns
+returns : tie.Need-returns-then-there-lt-WORD_SIZE
 returns c =
-    let start = c.before.before.before in
-    head_short start.args.input.now c.short.result c.before.if1.true c.short.ensures
+    let start = c in
+    head_short start.args.input.now c.short.result c.if-there-lt-WORD_SIZE.true c.short.ensures
 
-walk-body-requires : tie.Need-walk-body-requires
-walk-body-requires c κs = search rules
+walk_body-requires : tie.Need-walk_body-requires
+walk_body-requires c κs = search rules
 
-returns-2 : tie.Need-returns-2
+returns-2 : tie.Need-returns
 returns-2 c = search rules
 
-pub walk-rowset-spec : {M : Type 1} → statement M
-walk-rowset-spec = tie.close (tie.spec short-requires returns walk-body-requires returns-2)
+pub walk_rowset_spec : {M : Type 1} → statement M
+walk_rowset_spec = tie.close (tie.spec short-requires returns walk_body-requires returns-2)

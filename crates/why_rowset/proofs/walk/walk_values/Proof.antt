@@ -6,50 +6,50 @@ use Rattle.why_rowset.proofs.WalkLaws.{ValuesLeft, values_stop, values_go, value
 use Rattle.why_rowset.proofs.walk.walk_values.Statement.{statement}
 use Rattle.why_rowset.proofs.walk.walk_values.Tie as tie
 
-abbrev invariant-loop : tie.invariant-loop
+abbrev invariant-loop : tie.invariant-loop-left
 invariant-loop input count start left₀ at₀ plain₀ left at plain = ValuesLeft input count start plain₀ left at plain
 
-abbrev decreases-loop : tie.decreases-loop
+abbrev decreases-loop : tie.decreases-loop-left
 decreases-loop input count start left₀ at₀ plain₀ left at plain = left
 
-loop-holds : tie.Need-loop-init invariant-loop decreases-loop
-loop-holds c = (c.before.requires, (λ r goes. goes))
+loop-holds : tie.Need-loop-left-init invariant-loop decreases-loop
+loop-holds c = (c.requires, (λ r goes. goes))
 
-walk-value-requires : tie.Need-walk-value-requires invariant-loop decreases-loop
-walk-value-requires c κs = search rules
+walk_value-requires : tie.Need-walk_value-requires invariant-loop decreases-loop
+walk_value-requires c κs = search rules
 
-enum-known-finding : tie.Need-enum-known-finding invariant-loop decreases-loop
-enum-known-finding c = search rules
+enum_known-finding : tie.Need-enum_known-finding invariant-loop decreases-loop
+enum_known-finding c = search rules
 
-returns : tie.Need-returns invariant-loop decreases-loop
-returns c = values_stop _ _ _ _ _ _ _ c.before.before.before.before.before.loop.invariant c.before.before.before.before.loop-test.true _ c.before.before.before.walk-value.ensures _ c.before.finding.given.1
+returns : tie.Need-returns-in-Found invariant-loop decreases-loop
+returns c = values_stop _ _ _ _ _ _ _ c.loop-left.invariant c.loop-left-test.true _ c.walk_value.ensures _ c.in-Found.is
 
-enum-known-next : tie.Need-enum-known-next invariant-loop decreases-loop
-enum-known-next c = search rules
+enum_known-next : tie.Need-enum_known-next invariant-loop decreases-loop
+enum_known-next c = search rules
 
-sub-left : tie.Need-overflow-sub-left invariant-loop decreases-loop
+sub-left : tie.Need-overflow_sub-left invariant-loop decreases-loop
 sub-left c = omega arith
 
-loop-less : tie.Need-loop-smaller invariant-loop decreases-loop
+loop-less : tie.Need-loop-left-smaller invariant-loop decreases-loop
 loop-less c = omega arith
 
-loop-again : tie.Need-loop-preserved invariant-loop decreases-loop
-loop-again c = values_go _ _ _ _ _ _ _ c.before.before.before.before.before.loop.invariant c.before.before.before.before.loop-test.true _ c.before.before.before.walk-value.ensures _ _ c.before.next.given.1
+loop-again : tie.Need-loop-left-preserved invariant-loop decreases-loop
+loop-again c = values_go _ _ _ _ _ _ _ c.loop-left.invariant c.loop-left-test.true _ c.walk_value.ensures _ _ c.in-At.is
 
-returns-2 : tie.Need-returns-2 invariant-loop decreases-loop
-returns-2 c = values_end _ _ _ _ _ _ _ c.before.loop.invariant c.loop-test.false
+returns-2 : tie.Need-returns invariant-loop decreases-loop
+returns-2 c = values_end _ _ _ _ _ _ _ c.loop-left.invariant c.loop-left-test.false
 
-pub walk-values-spec : {M : Type 1} → statement M
-walk-values-spec =
+pub walk_values_spec : {M : Type 1} → statement M
+walk_values_spec =
     tie.close
     (tie.spec
     invariant-loop
     decreases-loop
     loop-holds
-    walk-value-requires
-    enum-known-finding
+    walk_value-requires
+    enum_known-finding
     returns
-    enum-known-next
+    enum_known-next
     sub-left
     loop-less
     loop-again

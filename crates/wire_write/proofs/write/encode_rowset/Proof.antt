@@ -6,55 +6,55 @@ use borrow.Author.Rules.{rules}
 use Rattle.wire_write.proofs.write.encode_rowset.Statement.{statement}
 use Rattle.wire_write.proofs.write.encode_rowset.Tie as tie
 
-encoded-size-requires : tie.Need-encoded-size-requires
-encoded-size-requires c κs = search rules
+encoded_size-requires : tie.Need-encoded_size-requires
+encoded_size-requires c κs = search rules
 
-enum-known-refusal : tie.Need-enum-known-refusal
-enum-known-refusal c = search rules
+enum_known-refusal : tie.Need-enum_known-refusal
+enum_known-refusal c = search rules
 
-enum-known-size : tie.Need-enum-known-size
-enum-known-size c = search rules
+enum_known-size : tie.Need-enum_known-size
+enum_known-size c = search rules
 
-returns : tie.Need-returns
-returns c = encode_short c.before.before.before.before.before.before.before.before.before.args.area.now c.before.before.before.before.before.before.before.before.before.args.rows.now c.before.before.before.before.before.before.before.before.before.args.values.now c.before.before.before.before.before.before.before.before.before.args.out.now c.before.before.before.before.encoded-size.result c.before.before.before.before.encoded-size.ensures.1 _ c.before.before.size.given.1 c.if1.true
+returns : tie.Need-returns-then-out-size
+returns c = encode_short c.args.area.now c.args.rows.now c.args.values.now c.args.out.now c.encoded_size.result c.encoded_size.ensures.1 _ c.in-Size.is c.if-out-size.true
 
-write-u64-requires : tie.Need-write-u64-requires
-write-u64-requires c κs = search rules
+write_u64-requires : tie.Need-write_u64-requires
+write_u64-requires c κs = search rules
 
-sub-write-rows : tie.Need-overflow-sub-write-rows
-sub-write-rows c = count_within c.before.before.before.before.before.before.before.before.before.before.before.before.before.args.area.now c.before.before.before.before.before.before.before.before.before.before.before.before.before.args.rows.now c.before.before.before.before.before.before.before.before.before.before.before.before.before.args.values.now c.before.before.before.before.before.before.before.before.before.before.before.before.before.args.out.now (rowset_room c.before.before.before.before.before.before.before.before.before.before.before.before.before.args.area.now c.before.before.before.before.before.before.before.before.before.before.before.before.before.args.rows.now c.before.before.before.before.before.before.before.before.before.before.before.before.before.args.values.now c.before.before.before.before.before.before.before.before.before.before.before.before.before.args.out.now c.before.before.before.before.before.before.before.before.encoded-size.result c.before.before.before.before.before.before.before.before.encoded-size.ensures.1 _ c.before.before.before.before.before.before.size.given.1 c.before.before.before.before.if1.false) c.before.before.write-u64.new.0 c.before.before.write-u64.ensures
+sub-write_rows : tie.Need-slice_bounds-write_rows-count
+sub-write_rows c = count_within c.args.area.now c.args.rows.now c.args.values.now c.args.out.now (rowset_room c.args.area.now c.args.rows.now c.args.values.now c.args.out.now c.encoded_size.result c.encoded_size.ensures.1 _ c.in-Size.is c.if-out-size.false) c.write_u64.new.out c.write_u64.ensures
 
-part-write-rows-start : tie.Need-slice-bounds-write-rows-start
-part-write-rows-start c = count_within c.before.before.before.before.before.before.before.before.before.before.before.before.before.args.area.now c.before.before.before.before.before.before.before.before.before.before.before.before.before.args.rows.now c.before.before.before.before.before.before.before.before.before.before.before.before.before.args.values.now c.before.before.before.before.before.before.before.before.before.before.before.before.before.args.out.now (rowset_room c.before.before.before.before.before.before.before.before.before.before.before.before.before.args.area.now c.before.before.before.before.before.before.before.before.before.before.before.before.before.args.rows.now c.before.before.before.before.before.before.before.before.before.before.before.before.before.args.values.now c.before.before.before.before.before.before.before.before.before.before.before.before.before.args.out.now c.before.before.before.before.before.before.before.before.encoded-size.result c.before.before.before.before.before.before.before.before.encoded-size.ensures.1 _ c.before.before.before.before.before.before.size.given.1 c.before.before.before.before.if1.false) c.before.before.write-u64.new.0 c.before.before.write-u64.ensures
+part-write_rows-start : tie.Need-slice_bounds-write_rows-start
+part-write_rows-start c = count_within c.args.area.now c.args.rows.now c.args.values.now c.args.out.now (rowset_room c.args.area.now c.args.rows.now c.args.values.now c.args.out.now c.encoded_size.result c.encoded_size.ensures.1 _ c.in-Size.is c.if-out-size.false) c.write_u64.new.out c.write_u64.ensures
 
-part-write-rows-end : tie.Need-slice-bounds-write-rows-end
-part-write-rows-end c = search rules
+part-write_rows-end : tie.Need-slice_bounds-write_rows-end
+part-write_rows-end c = search rules
 
-write-rows-requires : tie.Need-write-rows-requires
-write-rows-requires c κs = (tables_good c.before.before.before.before.before.before.before.before.before.before.before.before.before.before.args.area.now c.before.before.before.before.before.before.before.before.before.before.before.before.before.before.args.rows.now c.before.before.before.before.before.before.before.before.before.before.before.before.before.before.args.values.now c.before.before.before.before.before.before.before.before.before.before.before.before.before.before.args.out.now c.before.before.before.before.before.before.before.before.before.encoded-size.result c.before.before.before.before.before.before.before.before.before.encoded-size.ensures.1 _ c.before.before.before.before.before.before.before.size.given.1, tables_whole c.before.before.before.before.before.before.before.before.before.before.before.before.before.before.args.area.now c.before.before.before.before.before.before.before.before.before.before.before.before.before.before.args.rows.now c.before.before.before.before.before.before.before.before.before.before.before.before.before.before.args.values.now c.before.before.before.before.before.before.before.before.before.before.before.before.before.before.args.out.now c.before.before.before.before.before.before.before.before.before.encoded-size.result c.before.before.before.before.before.before.before.before.before.encoded-size.ensures.1 _ c.before.before.before.before.before.before.before.size.given.1, rows_room c.before.before.before.before.before.before.before.before.before.before.before.before.before.before.args.area.now c.before.before.before.before.before.before.before.before.before.before.before.before.before.before.args.rows.now c.before.before.before.before.before.before.before.before.before.before.before.before.before.before.args.values.now c.before.before.before.before.before.before.before.before.before.before.before.before.before.before.args.out.now (rowset_room c.before.before.before.before.before.before.before.before.before.before.before.before.before.before.args.area.now c.before.before.before.before.before.before.before.before.before.before.before.before.before.before.args.rows.now c.before.before.before.before.before.before.before.before.before.before.before.before.before.before.args.values.now c.before.before.before.before.before.before.before.before.before.before.before.before.before.before.args.out.now c.before.before.before.before.before.before.before.before.before.encoded-size.result c.before.before.before.before.before.before.before.before.before.encoded-size.ensures.1 _ c.before.before.before.before.before.before.before.size.given.1 c.before.before.before.before.before.if1.false) c.before.before.before.write-u64.new.0 c.before.before.before.write-u64.ensures)
+write_rows-requires : tie.Need-write_rows-requires
+write_rows-requires c κs = (tables_good c.args.area.now c.args.rows.now c.args.values.now c.args.out.now c.encoded_size.result c.encoded_size.ensures.1 _ c.in-Size.is, tables_whole c.args.area.now c.args.rows.now c.args.values.now c.args.out.now c.encoded_size.result c.encoded_size.ensures.1 _ c.in-Size.is, rows_room c.args.area.now c.args.rows.now c.args.values.now c.args.out.now (rowset_room c.args.area.now c.args.rows.now c.args.values.now c.args.out.now c.encoded_size.result c.encoded_size.ensures.1 _ c.in-Size.is c.if-out-size.false) c.write_u64.new.out c.write_u64.ensures)
 
-returns-2 : tie.Need-returns-2
-returns-2 c = encode_refused c.before.before.before.before.before.before.before.before.args.area.now c.before.before.before.before.before.before.before.before.args.rows.now c.before.before.before.before.before.before.before.before.args.values.now c.before.before.before.before.before.before.before.before.args.out.now c.before.before.before.encoded-size.result c.before.before.before.encoded-size.ensures.1 _ c.before.refusal.given.1
+returns-2 : tie.Need-returns-in-Refused
+returns-2 c = encode_refused c.args.area.now c.args.rows.now c.args.values.now c.args.out.now c.encoded_size.result c.encoded_size.ensures.1 _ c.in-Refused.is
 
-same_length : tie.Need-same-length
+same_length : tie.Need-shape_of-out
 same_length c = search rules
 
-returns-3 : tie.Need-returns-3
-returns-3 c = encode_written c.before.before.before.before.before.before.before.before.before.before.before.before.before.before.before.before.before.args.area.now c.before.before.before.before.before.before.before.before.before.before.before.before.before.before.before.before.before.args.rows.now c.before.before.before.before.before.before.before.before.before.before.before.before.before.before.before.before.before.args.values.now c.before.before.before.before.before.before.before.before.before.before.before.before.before.before.before.before.before.args.out.now c.before.before.before.before.before.before.before.before.before.before.before.before.encoded-size.result c.before.before.before.before.before.before.before.before.before.before.before.before.encoded-size.ensures.1 _ c.before.before.before.before.before.before.before.before.before.before.size.given.1 c.before.before.before.before.before.before.before.before.if1.false _ _ (rowset_puts c.before.before.before.before.before.before.before.before.before.before.before.before.before.before.before.before.before.args.area.now c.before.before.before.before.before.before.before.before.before.before.before.before.before.before.before.before.before.args.rows.now c.before.before.before.before.before.before.before.before.before.before.before.before.before.before.before.before.before.args.values.now c.before.before.before.before.before.before.before.before.before.before.before.before.before.before.before.before.before.args.out.now (rowset_room c.before.before.before.before.before.before.before.before.before.before.before.before.before.before.before.before.before.args.area.now c.before.before.before.before.before.before.before.before.before.before.before.before.before.before.before.before.before.args.rows.now c.before.before.before.before.before.before.before.before.before.before.before.before.before.before.before.before.before.args.values.now c.before.before.before.before.before.before.before.before.before.before.before.before.before.before.before.before.before.args.out.now c.before.before.before.before.before.before.before.before.before.before.before.before.encoded-size.result c.before.before.before.before.before.before.before.before.before.before.before.before.encoded-size.ensures.1 _ c.before.before.before.before.before.before.before.before.before.before.size.given.1 c.before.before.before.before.before.before.before.before.if1.false) c.before.before.before.before.before.before.write-u64.new.0 c.before.before.before.before.before.before.write-u64.ensures c.before.before.write-rows.new.1.1.1.0 c.before.before.write-rows.result c.before.before.write-rows.ensures)
+returns-3 : tie.Need-returns-else-out-size
+returns-3 c = encode_written c.args.area.now c.args.rows.now c.args.values.now c.args.out.now c.encoded_size.result c.encoded_size.ensures.1 _ c.in-Size.is c.if-out-size.false _ _ (rowset_puts c.args.area.now c.args.rows.now c.args.values.now c.args.out.now (rowset_room c.args.area.now c.args.rows.now c.args.values.now c.args.out.now c.encoded_size.result c.encoded_size.ensures.1 _ c.in-Size.is c.if-out-size.false) c.write_u64.new.out c.write_u64.ensures c.write_rows.new.out c.write_rows.result c.write_rows.ensures)
 
-pub encode-rowset-spec : {M : Type 1} → statement M
-encode-rowset-spec =
+pub encode_rowset_spec : {M : Type 1} → statement M
+encode_rowset_spec =
     tie.close
     (tie.spec
-    encoded-size-requires
-    enum-known-refusal
-    enum-known-size
+    encoded_size-requires
+    enum_known-refusal
+    enum_known-size
     returns
-    write-u64-requires
-    sub-write-rows
-    part-write-rows-start
-    part-write-rows-end
-    write-rows-requires
+    write_u64-requires
+    sub-write_rows
+    part-write_rows-start
+    part-write_rows-end
+    write_rows-requires
     returns-2
     same_length
     returns-3)

@@ -5,59 +5,59 @@ use borrow.Author.Rules.{rules}
 use Rattle.wire_write.proofs.write.write_blob.Statement.{statement}
 use Rattle.wire_write.proofs.write.write_blob.Tie as tie
 
-add-end : tie.Need-overflow-add-end
+add-end : tie.Need-overflow_add-end
 add-end c = search rules
 
-sub-write-bytes : tie.Need-overflow-sub-write-bytes
-sub-write-bytes c = search rules
+sub-write_bytes : tie.Need-slice_bounds-write_bytes-count
+sub-write_bytes c = search rules
 
-part-write-bytes-start : tie.Need-slice-bounds-write-bytes-start
-part-write-bytes-start c = search rules
+part-write_bytes-start : tie.Need-slice_bounds-write_bytes-start
+part-write_bytes-start c = search rules
 
-part-write-bytes-end : tie.Need-slice-bounds-write-bytes-end
-part-write-bytes-end c = search rules
+part-write_bytes-end : tie.Need-slice_bounds-write_bytes-end
+part-write_bytes-end c = search rules
 
-write-bytes-requires : tie.Need-write-bytes-requires
-write-bytes-requires c κs = search rules
+write_bytes-requires : tie.Need-write_bytes-requires
+write_bytes-requires c κs = search rules
 
-sub-padding : tie.Need-overflow-sub-padding
+sub-padding : tie.Need-overflow_sub-padding
 sub-padding c = search rules
 
-sub-write-zeros : tie.Need-overflow-sub-write-zeros
-sub-write-zeros c = blob_within c.before.before.before.before.before.before.before.args.area.now c.before.before.before.before.before.before.before.args.out.now c.before.before.before.before.before.before.before.args.offset c.before.before.before.before.before.before.before.args.length c.before.before.before.before.before.before.before.requires.0 c.before.before.before.before.before.before.before.requires.1 c.before.before.write_bytes.new.0 c.before.before.write_bytes.ensures
+sub-write_zeros : tie.Need-slice_bounds-write_zeros-count
+sub-write_zeros c = blob_within c.args.area.now c.args.out.now c.args.offset c.args.length c.requires.0 c.requires.1 c.write_bytes.new.out c.write_bytes.ensures
 
-part-write-zeros-start : tie.Need-slice-bounds-write-zeros-start
-part-write-zeros-start c = blob_within c.before.before.before.before.before.before.before.args.area.now c.before.before.before.before.before.before.before.args.out.now c.before.before.before.before.before.before.before.args.offset c.before.before.before.before.before.before.before.args.length c.before.before.before.before.before.before.before.requires.0 c.before.before.before.before.before.before.before.requires.1 c.before.before.write_bytes.new.0 c.before.before.write_bytes.ensures
+part-write_zeros-start : tie.Need-slice_bounds-write_zeros-start
+part-write_zeros-start c = blob_within c.args.area.now c.args.out.now c.args.offset c.args.length c.requires.0 c.requires.1 c.write_bytes.new.out c.write_bytes.ensures
 
-part-write-zeros-end : tie.Need-slice-bounds-write-zeros-end
-part-write-zeros-end c = search rules
+part-write_zeros-end : tie.Need-slice_bounds-write_zeros-end
+part-write_zeros-end c = search rules
 
-write-zeros-requires : tie.Need-write-zeros-requires
-write-zeros-requires c κs = search rules
+write_zeros-requires : tie.Need-write_zeros-requires
+write_zeros-requires c κs = search rules
 
-add-result : tie.Need-overflow-add-result
+add-result : tie.Need-overflow_add-result
 add-result c = search rules
 
-same_length : tie.Need-same-length
+same_length : tie.Need-shape_of-out
 same_length c = search rules
 
 returns : tie.Need-returns
-returns c = blob_puts c.before.before.before.before.before.before.before.before.before.before.before.args.area.now c.before.before.before.before.before.before.before.before.before.before.before.args.out.now c.before.before.before.before.before.before.before.before.before.before.before.args.offset c.before.before.before.before.before.before.before.before.before.before.before.args.length c.before.before.before.before.before.before.before.before.before.before.before.requires.0 c.before.before.before.before.before.before.before.before.before.before.before.requires.1 c.before.before.before.before.before.before.write_bytes.new.0 c.before.before.before.before.before.before.write_bytes.ensures c.before.before.write-zeros.new.0 c.before.before.write-zeros.ensures
+returns c = blob_puts c.args.area.now c.args.out.now c.args.offset c.args.length c.requires.0 c.requires.1 c.write_bytes.new.out c.write_bytes.ensures c.write_zeros.new.out c.write_zeros.ensures
 
-pub write-blob-spec : {M : Type 1} → statement M
-write-blob-spec =
+pub write_blob_spec : {M : Type 1} → statement M
+write_blob_spec =
     tie.close
     (tie.spec
     add-end
-    sub-write-bytes
-    part-write-bytes-start
-    part-write-bytes-end
-    write-bytes-requires
+    sub-write_bytes
+    part-write_bytes-start
+    part-write_bytes-end
+    write_bytes-requires
     sub-padding
-    sub-write-zeros
-    part-write-zeros-start
-    part-write-zeros-end
-    write-zeros-requires
+    sub-write_zeros
+    part-write_zeros-start
+    part-write_zeros-end
+    write_zeros-requires
     add-result
     same_length
     returns)

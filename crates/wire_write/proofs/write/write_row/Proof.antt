@@ -6,43 +6,43 @@ use borrow.Author.Rules.{rules}
 use Rattle.wire_write.proofs.write.write_row.Statement.{statement}
 use Rattle.wire_write.proofs.write.write_row.Tie as tie
 
-values-in-requires : tie.Need-values-in-requires
-values-in-requires c κs = search rules
+values_in-requires : tie.Need-values_in-n-requires
+values_in-requires c κs = search rules
 
-write-u64-requires : tie.Need-write-u64-requires
-write-u64-requires c κs = search rules
+write_u64-requires : tie.Need-write_u64-requires
+write_u64-requires c κs = search rules
 
-sub-write-values : tie.Need-overflow-sub-write-values
-sub-write-values c = word_within c.before.before.before.before.before.before.before.before.args.area.now c.before.before.before.before.before.before.before.before.args.values.now c.before.before.before.before.before.before.before.before.args.count c.before.before.before.before.before.before.before.before.args.k c.before.before.before.before.before.before.before.before.args.out.now c.before.before.before.before.before.before.before.before.requires.3 c.before.before.write-u64.new.0 c.before.before.write-u64.ensures c.before.before.before.before.values-in.result c.before.before.before.before.values-in.ensures
+sub-write_values : tie.Need-slice_bounds-write_values-count
+sub-write_values c = word_within c.args.area.now c.args.values.now c.args.count c.args.k c.args.out.now c.requires.3 c.write_u64.new.out c.write_u64.ensures c.values_in-n.result c.values_in-n.ensures
 
-part-write-values-start : tie.Need-slice-bounds-write-values-start
-part-write-values-start c = word_within c.before.before.before.before.before.before.before.before.args.area.now c.before.before.before.before.before.before.before.before.args.values.now c.before.before.before.before.before.before.before.before.args.count c.before.before.before.before.before.before.before.before.args.k c.before.before.before.before.before.before.before.before.args.out.now c.before.before.before.before.before.before.before.before.requires.3 c.before.before.write-u64.new.0 c.before.before.write-u64.ensures c.before.before.before.before.values-in.result c.before.before.before.before.values-in.ensures
+part-write_values-start : tie.Need-slice_bounds-write_values-start
+part-write_values-start c = word_within c.args.area.now c.args.values.now c.args.count c.args.k c.args.out.now c.requires.3 c.write_u64.new.out c.write_u64.ensures c.values_in-n.result c.values_in-n.ensures
 
-part-write-values-end : tie.Need-slice-bounds-write-values-end
-part-write-values-end c = search rules
+part-write_values-end : tie.Need-slice_bounds-write_values-end
+part-write_values-end c = search rules
 
-write-values-requires : tie.Need-write-values-requires
-write-values-requires c κs = (c.before.before.before.before.before.before.before.before.before.requires.0, c.before.before.before.before.before.before.before.before.before.requires.1, omega (arith, c.before.before.before.before.before.before.before.before.before.requires.2, c.before.before.before.before.before.values-in.ensures), values_room c.before.before.before.before.before.before.before.before.before.args.area.now c.before.before.before.before.before.before.before.before.before.args.values.now c.before.before.before.before.before.before.before.before.before.args.count c.before.before.before.before.before.before.before.before.before.args.k c.before.before.before.before.before.before.before.before.before.args.out.now c.before.before.before.before.before.before.before.before.before.requires.3 c.before.before.before.write-u64.new.0 c.before.before.before.write-u64.ensures c.before.before.before.before.before.values-in.result c.before.before.before.before.before.values-in.ensures)
+write_values-requires : tie.Need-write_values-size-requires
+write_values-requires c κs = (c.requires.0, c.requires.1, omega (arith, c.requires.2, c.values_in-n.ensures), values_room c.args.area.now c.args.values.now c.args.count c.args.k c.args.out.now c.requires.3 c.write_u64.new.out c.write_u64.ensures c.values_in-n.result c.values_in-n.ensures)
 
-add-result : tie.Need-overflow-add-result
-add-result c = omega (arith, (row_puts c.before.before.before.before.before.before.before.before.before.before.before.before.args.area.now c.before.before.before.before.before.before.before.before.before.before.before.before.args.values.now c.before.before.before.before.before.before.before.before.before.before.before.before.args.count c.before.before.before.before.before.before.before.before.before.before.before.before.args.k c.before.before.before.before.before.before.before.before.before.before.before.before.args.out.now c.before.before.before.before.before.before.before.before.before.before.before.before.requires.3 c.before.before.before.before.before.before.write-u64.new.0 c.before.before.before.before.before.before.write-u64.ensures c.before.before.before.before.before.before.before.before.values-in.result c.before.before.before.before.before.before.before.before.values-in.ensures c.before.before.write-values.new.1.1.1.1.0 c.before.before.write-values.result c.before.before.write-values.ensures).0, c.before.before.before.before.before.before.before.before.before.before.before.before.requires.3, c.before.before.before.before.before.before.before.before.before.before.before.before.well-formed)
+add-result : tie.Need-overflow_add-result
+add-result c = omega (arith, (row_puts c.args.area.now c.args.values.now c.args.count c.args.k c.args.out.now c.requires.3 c.write_u64.new.out c.write_u64.ensures c.values_in-n.result c.values_in-n.ensures c.write_values-size.new.out c.write_values-size.result c.write_values-size.ensures).0, c.requires.3, c.well_formed)
 
-same_length : tie.Need-same-length
+same_length : tie.Need-shape_of-out
 same_length c = search rules
 
 returns : tie.Need-returns
-returns c = row_puts c.before.before.before.before.before.before.before.before.before.before.before.before.args.area.now c.before.before.before.before.before.before.before.before.before.before.before.before.args.values.now c.before.before.before.before.before.before.before.before.before.before.before.before.args.count c.before.before.before.before.before.before.before.before.before.before.before.before.args.k c.before.before.before.before.before.before.before.before.before.before.before.before.args.out.now c.before.before.before.before.before.before.before.before.before.before.before.before.requires.3 c.before.before.before.before.before.before.write-u64.new.0 c.before.before.before.before.before.before.write-u64.ensures c.before.before.before.before.before.before.before.before.values-in.result c.before.before.before.before.before.before.before.before.values-in.ensures c.before.before.write-values.new.1.1.1.1.0 c.before.before.write-values.result c.before.before.write-values.ensures
+returns c = row_puts c.args.area.now c.args.values.now c.args.count c.args.k c.args.out.now c.requires.3 c.write_u64.new.out c.write_u64.ensures c.values_in-n.result c.values_in-n.ensures c.write_values-size.new.out c.write_values-size.result c.write_values-size.ensures
 
-pub write-row-spec : {M : Type 1} → statement M
-write-row-spec =
+pub write_row_spec : {M : Type 1} → statement M
+write_row_spec =
     tie.close
     (tie.spec
-    values-in-requires
-    write-u64-requires
-    sub-write-values
-    part-write-values-start
-    part-write-values-end
-    write-values-requires
+    values_in-requires
+    write_u64-requires
+    sub-write_values
+    part-write_values-start
+    part-write_values-end
+    write_values-requires
     add-result
     same_length
     returns)

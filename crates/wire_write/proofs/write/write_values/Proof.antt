@@ -7,59 +7,59 @@ use Rattle.wire_write.proofs.BytesLaws.{ValuesToGo, entry_within, entry_room, va
 use Rattle.wire_write.proofs.write.write_values.Statement.{statement}
 use Rattle.wire_write.proofs.write.write_values.Tie as tie
 
-abbrev invariant-loop : tie.invariant-loop
+abbrev invariant-loop : tie.invariant-loop-left
 invariant-loop area values start count out₀ at₀ k₀ left₀ out at k left = ValuesToGo area values start count out₀ out at k left
 
-abbrev decreases-loop : tie.decreases-loop
+abbrev decreases-loop : tie.decreases-loop-left
 decreases-loop area values start count out₀ at₀ k₀ left₀ out at k left = left
 
-loop-holds : tie.Need-loop-init invariant-loop decreases-loop
-loop-holds c = (c.before.before.before.requires.1, c.before.before.before.requires.2, begins _ _ c.before.before.before.requires.3)
+loop-holds : tie.Need-loop-left-init invariant-loop decreases-loop
+loop-holds c = (c.requires.1, c.requires.2, begins _ _ c.requires.3)
 
-sub-write-entry : tie.Need-overflow-sub-write-entry invariant-loop decreases-loop
-sub-write-entry c = entry_within _ _ _ _ _ _ _ _ _ c.before.loop.invariant c.loop-test.true
+sub-write_entry : tie.Need-slice_bounds-write_entry-count invariant-loop decreases-loop
+sub-write_entry c = entry_within _ _ _ _ _ _ _ _ _ c.loop-left.invariant c.loop-left-test.true
 
-part-write-entry-start : tie.Need-slice-bounds-write-entry-start invariant-loop decreases-loop
-part-write-entry-start c = entry_within _ _ _ _ _ _ _ _ _ c.before.loop.invariant c.loop-test.true
+part-write_entry-start : tie.Need-slice_bounds-write_entry-start invariant-loop decreases-loop
+part-write_entry-start c = entry_within _ _ _ _ _ _ _ _ _ c.loop-left.invariant c.loop-left-test.true
 
-part-write-entry-end : tie.Need-slice-bounds-write-entry-end invariant-loop decreases-loop
-part-write-entry-end c = search rules
+part-write_entry-end : tie.Need-slice_bounds-write_entry-end invariant-loop decreases-loop
+part-write_entry-end c = search rules
 
-write-entry-requires : tie.Need-write-entry-requires invariant-loop decreases-loop
-write-entry-requires c κs = (omega arith, c.before.before.before.before.before.before.requires.0 c.before.before.loop.k (omega arith) (omega arith), entry_room _ _ _ _ _ _ _ _ _ c.before.before.loop.invariant c.before.loop-test.true)
+write_entry-requires : tie.Need-write_entry-at-requires invariant-loop decreases-loop
+write_entry-requires c κs = (omega arith, c.requires.0 c.loop-left.k (omega arith) (omega arith), entry_room _ _ _ _ _ _ _ _ _ c.loop-left.invariant c.loop-left-test.true)
 
-add_at : tie.Need-overflow-add-at invariant-loop decreases-loop
-add_at c = omega (arith, room_left (values_step _ _ _ _ _ _ _ _ _ c.before.before.before.before.before.loop.invariant c.before.before.before.before.loop-test.true c.before.before.write-entry.new.1.1.1.0 c.before.before.write-entry.result c.before.before.write-entry.ensures).2, c.before.before.before.before.before.before.before.before.before.well-formed)
+add_at : tie.Need-overflow_add-at invariant-loop decreases-loop
+add_at c = omega (arith, room_left (values_step _ _ _ _ _ _ _ _ _ c.loop-left.invariant c.loop-left-test.true c.write_entry-at.new.out c.write_entry-at.result c.write_entry-at.ensures).2, c.well_formed)
 
-add-k : tie.Need-overflow-add-k invariant-loop decreases-loop
+add-k : tie.Need-overflow_add-k invariant-loop decreases-loop
 add-k c = omega arith
 
-sub-left : tie.Need-overflow-sub-left invariant-loop decreases-loop
+sub-left : tie.Need-overflow_sub-left invariant-loop decreases-loop
 sub-left c = omega arith
 
-loop-less : tie.Need-loop-smaller invariant-loop decreases-loop
+loop-less : tie.Need-loop-left-smaller invariant-loop decreases-loop
 loop-less c = omega arith
 
-loop-again : tie.Need-loop-preserved invariant-loop decreases-loop
-loop-again c = values_step _ _ _ _ _ _ _ _ _ c.before.before.before.before.before.loop.invariant c.before.before.before.before.loop-test.true c.before.before.write-entry.new.1.1.1.0 c.before.before.write-entry.result c.before.before.write-entry.ensures
+loop-again : tie.Need-loop-left-preserved invariant-loop decreases-loop
+loop-again c = values_step _ _ _ _ _ _ _ _ _ c.loop-left.invariant c.loop-left-test.true c.write_entry-at.new.out c.write_entry-at.result c.write_entry-at.ensures
 
-same_length : tie.Need-same-length invariant-loop decreases-loop
-same_length c = length_now c.before.loop.invariant.2
+same_length : tie.Need-shape_of-out invariant-loop decreases-loop
+same_length c = length_now c.loop-left.invariant.2
 
 returns : tie.Need-returns invariant-loop decreases-loop
-returns c = values_done _ _ _ _ _ _ _ _ _ c.before.loop.invariant c.loop-test.false
+returns c = values_done _ _ _ _ _ _ _ _ _ c.loop-left.invariant c.loop-left-test.false
 
-pub write-values-spec : {M : Type 1} → statement M
-write-values-spec =
+pub write_values_spec : {M : Type 1} → statement M
+write_values_spec =
     tie.close
     (tie.spec
     invariant-loop
     decreases-loop
     loop-holds
-    sub-write-entry
-    part-write-entry-start
-    part-write-entry-end
-    write-entry-requires
+    sub-write_entry
+    part-write_entry-start
+    part-write_entry-end
+    write_entry-requires
     add_at
     add-k
     sub-left
