@@ -4,7 +4,6 @@ ghost use Rattle.std.specs.Prelude.{◌≡◌, ◌≤◌, ◌<◌, ◌+◌, ◌*
 ghost use Rattle.std.proofs.lemmas.List.Edits.{sets};
 ghost use Rattle.words.specs.Decide.{pick, ◌=?◌};
 ghost use Rattle.error_tree.specs.Message.{fields, error_fields, dictionary_fields};
-ghost use Rattle.error_tree.specs.Reading.{error_entry};
 ghost use Rattle.error_tree.specs.Tree.{none, field_parts, inner_part, parts, tree};
 ghost use Rattle.error_tree.specs.Statement.{Lies};
 ghost use Rattle.error_read.specs.Stages.{Scanned, entry_words, dictionary_words, Stored, Fills, FillsAll, Room};
@@ -135,9 +134,9 @@ fn fill_dictionary(
 
 // The entry of the error number `next`.
 fn put_error(errors: &mut [u64], next: usize, code: u64, depth: u64, place: u64, size: u64)
-    requires { error_entry * (next + 1) ≤ length errors.old }
+    requires { 4 * (next + 1) ≤ length errors.old }
     ensures { errors.new
-        ≡ sets errors.old (error_entry * next) (code ∷ depth ∷ place ∷ size ∷ []) }
+        ≡ sets errors.old (4 * next) (code ∷ depth ∷ place ∷ size ∷ []) }
 {
     let k = ERROR_ENTRY * next;
     errors[k] = code;
