@@ -4,14 +4,14 @@ use borrow.Author.Rules.{rules}
 use Rattle.face_text.proofs.cablefinch_text_size.Statement.{statement}
 use Rattle.face_text.proofs.cablefinch_text_size.Tie as tie
 
-text-size-requires : tie.Need-text-size-requires
-text-size-requires c κs = search rules
+text_size-requires : tie.Need-text_size-requires
+text_size-requires c κs = search rules
 
 outcome-requires : tie.Need-outcome-requires
 outcome-requires c κs = search rules
 
 returns : tie.Need-returns
-returns c = told c.before.text_size.ensures.0 c.outcome.ensures
+returns c = told c.text_size.ensures.0 c.outcome.ensures
 
-pub cablefinch-text-size-spec : {M : Type 1} → statement M
-cablefinch-text-size-spec = tie.close (tie.spec text-size-requires outcome-requires returns)
+pub cablefinch_text_size_spec : {M : Type 1} → statement M
+cablefinch_text_size_spec = tie.close (tie.spec text_size-requires outcome-requires returns)

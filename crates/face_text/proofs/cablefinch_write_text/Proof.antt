@@ -4,18 +4,18 @@ use borrow.Author.Rules.{rules}
 use Rattle.face_text.proofs.cablefinch_write_text.Statement.{statement}
 use Rattle.face_text.proofs.cablefinch_write_text.Tie as tie
 
-write-text-requires : tie.Need-write-text-requires
-write-text-requires c κs = search rules
+write_text-requires : tie.Need-write_text-requires
+write_text-requires c κs = search rules
 
 outcome-requires : tie.Need-outcome-requires
 outcome-requires c κs = search rules
 
-same_length : tie.Need-same-length
+same_length : tie.Need-shape_of-out
 same_length c = search rules
 
 returns : tie.Need-returns
-returns c = let e = c.before.before.before.write-text.ensures in (told e.0 c.outcome.ensures, e.1)
+returns c = let e = c.write_text.ensures in (told e.0 c.outcome.ensures, e.1)
 
-pub cablefinch-write-text-spec : {M : Type 1} → statement M
-cablefinch-write-text-spec =
-    tie.close (tie.spec write-text-requires outcome-requires same_length returns)
+pub cablefinch_write_text_spec : {M : Type 1} → statement M
+cablefinch_write_text_spec =
+    tie.close (tie.spec write_text-requires outcome-requires same_length returns)

@@ -5,31 +5,31 @@ use borrow.Author.Rules.{rules}
 use Rattle.face_text.proofs.text_outcome.Statement.{statement}
 use Rattle.face_text.proofs.text_outcome.Tie as tie
 
-enum-known-error : tie.Need-enum-known-error
-enum-known-error c = search rules
+enum_known-error : tie.Need-enum_known-error
+enum_known-error c = search rules
 
 refusal-requires : tie.Need-refusal-requires
 refusal-requires c κs = search rules
 
-enum-known-error-2 : tie.Need-enum-known-error-2
-enum-known-error-2 c = search rules
+enum_known-error-2 : tie.Need-enum_known-error-in-Limit-1
+enum_known-error-2 c = search rules
 
 outcome-requires : tie.Need-outcome-requires
 outcome-requires c κs = search rules
 
-returns : tie.Need-returns
-returns c = case text_paper c.before.before.error.given.1 c.refusal.ensures
+returns : tie.Need-returns-in-BadText
+returns c = case text_paper c.in-BadText.is c.refusal.ensures
 
-returns-2 : tie.Need-returns-2
+returns-2 : tie.Need-returns-in-Limit
 returns-2 c = search rules
 
-pub text-outcome-spec : {M : Type 1} → statement M
-text-outcome-spec =
+pub text_outcome_spec : {M : Type 1} → statement M
+text_outcome_spec =
     tie.close
     (tie.spec
-    enum-known-error
+    enum_known-error
     refusal-requires
-    enum-known-error-2
+    enum_known-error-2
     outcome-requires
     returns
     returns-2)

@@ -5,31 +5,31 @@ use borrow.Author.Rules.{rules}
 use Rattle.face_text.proofs.walked_outcome.Statement.{statement}
 use Rattle.face_text.proofs.walked_outcome.Tie as tie
 
-enum-known-answer : tie.Need-enum-known-answer
-enum-known-answer c = search rules
+enum_known-answer : tie.Need-enum_known-answer
+enum_known-answer c = search rules
 
 taken-requires : tie.Need-taken-requires
 taken-requires c κs = search rules
 
-enum-known-answer-2 : tie.Need-enum-known-answer-2
-enum-known-answer-2 c = search rules
+enum_known-answer-2 : tie.Need-enum_known-answer-in-Stopped-1
+enum_known-answer-2 c = search rules
 
-text-outcome-requires : tie.Need-text-outcome-requires
-text-outcome-requires c κs = search rules
+text_outcome-requires : tie.Need-text_outcome-requires
+text_outcome-requires c κs = search rules
 
-returns : tie.Need-returns
-returns c = case walked_paper c.before.before.answer.given.1 c.taken.ensures
+returns : tie.Need-returns-in-Counted
+returns c = case walked_paper c.in-Counted.is c.taken.ensures
 
-returns-2 : tie.Need-returns-2
+returns-2 : tie.Need-returns-in-Stopped
 returns-2 c = search rules
 
-pub walked-outcome-spec : {M : Type 1} → statement M
-walked-outcome-spec =
+pub walked_outcome_spec : {M : Type 1} → statement M
+walked_outcome_spec =
     tie.close
     (tie.spec
-    enum-known-answer
+    enum_known-answer
     taken-requires
-    enum-known-answer-2
-    text-outcome-requires
+    enum_known-answer-2
+    text_outcome-requires
     returns
     returns-2)

@@ -8,24 +8,21 @@ use borrow.Author.Rules.{rules}
 use Rattle.whying.proofs.bad_input.Statement.{statement}
 use Rattle.whying.proofs.bad_input.Tie as tie
 
-returns : tie.Need-returns
-returns c = let a = c.before.before.args in (no_room (text "bad input\n") a.out.now c.if1.true, tt)
+returns : tie.Need-returns-then-out-lt-LINE_ROOM
+returns c = let a = c.args in (no_room (text "bad input\n") a.out.now c.if-out-lt-LINE_ROOM.true, tt)
 
-slice-aggregate-line : tie.Need-slice-aggregate-line
-slice-aggregate-line c = refl
+write_bytes-requires : tie.Need-write_bytes-requires
+write_bytes-requires c κs = search rules
 
-write-bytes-requires : tie.Need-write-bytes-requires
-write-bytes-requires c κs = search rules
-
-same_length : tie.Need-same-length
+same_length : tie.Need-shape_of-out
 same_length c = search rules
 
-returns-2 : tie.Need-returns-2
+returns-2 : tie.Need-returns
 returns-2 c =
-    let a = c.before.before.before.before.before.before.before.args in
-    let roomy = c.before.before.before.before.before.if1.false in
-    (bad_written a.out.now _ roomy c.before.before.write_bytes.ensures, omega (arith, roomy))
+    let a = c.args in
+    let roomy = c.if-out-lt-LINE_ROOM.false in
+    (bad_written a.out.now _ roomy c.write_bytes.ensures, omega (arith, roomy))
 
-pub bad-input-spec : {M : Type 1} → statement M
-bad-input-spec =
-    tie.close (tie.spec returns slice-aggregate-line write-bytes-requires same_length returns-2)
+pub bad_input_spec : {M : Type 1} → statement M
+bad_input_spec =
+    tie.close (tie.spec returns write_bytes-requires same_length returns-2)

@@ -7,55 +7,55 @@ use Rattle.whying.proofs.OutputLaws.{StartsLeft, starts_short, starts_not, start
 use Rattle.whying.proofs.begins.Statement.{statement}
 use Rattle.whying.proofs.begins.Tie as tie
 
-abbrev invariant-loop : tie.invariant-loop
+abbrev invariant-loop : tie.invariant-loop-index
 invariant-loop input word index₀ index = StartsLeft word input index
 
-abbrev decreases-loop : tie.decreases-loop
+abbrev decreases-loop : tie.decreases-loop-index
 decreases-loop input word index₀ index = length word - index
 
-returns : tie.Need-returns invariant-loop decreases-loop
-returns c = starts_short c.before.args.word.now c.before.args.input.now c.if1.true
+returns : tie.Need-returns-then-input-word invariant-loop decreases-loop
+returns c = starts_short c.args.word.now c.args.input.now c.if-input-word.true
 
-loop-holds : tie.Need-loop-init invariant-loop decreases-loop
-loop-holds c = (omega arith, c.if1.false, refl)
+loop-holds : tie.Need-loop-index-init invariant-loop decreases-loop
+loop-holds c = (omega arith, c.if-input-word.false, refl)
 
-shared-slice-read-if2 : tie.Need-shared-slice-read-if2 invariant-loop decreases-loop
-shared-slice-read-if2 c = omega arith
+shared_slice_read-if2 : tie.Need-bounds-input-index invariant-loop decreases-loop
+shared_slice_read-if2 c = omega arith
 
-shared-slice-read-if2-2 : tie.Need-shared-slice-read-if2-2 invariant-loop decreases-loop
-shared-slice-read-if2-2 c = omega arith
+shared_slice_read-if2-2 : tie.Need-bounds-word-index invariant-loop decreases-loop
+shared_slice_read-if2-2 c = omega arith
 
-returns-2 : tie.Need-returns-2 invariant-loop decreases-loop
+returns-2 : tie.Need-returns-then-input-index invariant-loop decreases-loop
 returns-2 c =
-    let start = c.before.before.before.before.before.before in
-    starts_not start.args.word.now start.args.input.now _ c.before.before.before.before.loop.invariant c.before.before.before.loop-test.true c.if2.true
+    let start = c in
+    starts_not start.args.word.now start.args.input.now _ c.loop-index.invariant c.loop-index-test.true c.if-input-index.true
 
-add-index : tie.Need-overflow-add-index invariant-loop decreases-loop
+add-index : tie.Need-overflow_add-index invariant-loop decreases-loop
 add-index c = omega arith
 
-loop-less : tie.Need-loop-smaller invariant-loop decreases-loop
+loop-less : tie.Need-loop-index-smaller invariant-loop decreases-loop
 loop-less c = omega arith
 
-loop-again : tie.Need-loop-preserved invariant-loop decreases-loop
+loop-again : tie.Need-loop-index-preserved invariant-loop decreases-loop
 loop-again c =
-    let start = c.before.before.before.before.before.before in
-    starts_go start.args.word.now start.args.input.now _ c.before.before.before.before.loop.invariant c.before.before.before.loop-test.true c.if2.false
+    let start = c in
+    starts_go start.args.word.now start.args.input.now _ c.loop-index.invariant c.loop-index-test.true c.if-input-index.false
 
-returns-3 : tie.Need-returns-3 invariant-loop decreases-loop
+returns-3 : tie.Need-returns invariant-loop decreases-loop
 returns-3 c =
-    let start = c.before.before.before in
-    starts_end start.args.word.now start.args.input.now _ c.before.loop.invariant c.loop-test.false
+    let start = c in
+    starts_end start.args.word.now start.args.input.now _ c.loop-index.invariant c.loop-index-test.false
 
-pub begins-spec : {M : Type 1} → statement M
-begins-spec =
+pub begins_spec : {M : Type 1} → statement M
+begins_spec =
     tie.close
     (tie.spec
     invariant-loop
     decreases-loop
     returns
     loop-holds
-    shared-slice-read-if2
-    shared-slice-read-if2-2
+    shared_slice_read-if2
+    shared_slice_read-if2-2
     returns-2
     add-index
     loop-less

@@ -5,36 +5,36 @@ use borrow.Author.Rules.{rules}
 use Rattle.why_text.proofs.text.put_bytes.Statement.{statement}
 use Rattle.why_text.proofs.text.put_bytes.Tie as tie
 
-sub-write-bytes : tie.Need-overflow-sub-write-bytes
-sub-write-bytes c = search rules
+sub-write_bytes : tie.Need-slice_bounds-write_bytes-count
+sub-write_bytes c = search rules
 
-part-write-bytes-start : tie.Need-slice-bounds-write-bytes-start
-part-write-bytes-start c = search rules
+part-write_bytes-start : tie.Need-slice_bounds-write_bytes-start
+part-write_bytes-start c = search rules
 
-part-write-bytes-end : tie.Need-slice-bounds-write-bytes-end
-part-write-bytes-end c = search rules
+part-write_bytes-end : tie.Need-slice_bounds-write_bytes-end
+part-write_bytes-end c = search rules
 
-write-bytes-requires : tie.Need-write-bytes-requires
-write-bytes-requires c κs = search rules
+write_bytes-requires : tie.Need-write_bytes-requires
+write_bytes-requires c κs = search rules
 
-add-result : tie.Need-overflow-add-result
+add-result : tie.Need-overflow_add-result
 add-result c = search rules
 
-same_length : tie.Need-same-length
+same_length : tie.Need-shape_of-out
 same_length c = search rules
 
 returns : tie.Need-returns
-returns c = let start = c.before.before.before.before.before.before in
-    record { ends = refl; holds = wrote_tail start.args.bytes.now start.args.out.now c.before.before.write_bytes.new.0 start.args.at start.requires c.before.before.write_bytes.ensures }
+returns c = let start = c in
+    record { ends = refl; holds = wrote_tail start.args.bytes.now start.args.out.now c.write_bytes.new.out start.args.at start.requires c.write_bytes.ensures }
 
-pub put-bytes-spec : {M : Type 1} → statement M
-put-bytes-spec =
+pub put_bytes_spec : {M : Type 1} → statement M
+put_bytes_spec =
     tie.close
     (tie.spec
-    sub-write-bytes
-    part-write-bytes-start
-    part-write-bytes-end
-    write-bytes-requires
+    sub-write_bytes
+    part-write_bytes-start
+    part-write_bytes-end
+    write_bytes-requires
     add-result
     same_length
     returns)

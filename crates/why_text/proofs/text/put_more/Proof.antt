@@ -7,36 +7,32 @@ use borrow.Author.Rules.{rules}
 use Rattle.why_text.proofs.text.put_more.Statement.{statement}
 use Rattle.why_text.proofs.text.put_more.Tie as tie
 
-slice-aggregate-put-bytes : tie.Need-slice-aggregate-put-bytes
-slice-aggregate-put-bytes c = search rules
+put_bytes-requires : tie.Need-put_bytes-name_at-requires
+put_bytes-requires c κs = search rules
 
-put-bytes-requires : tie.Need-put-bytes-requires
-put-bytes-requires c κs = search rules
+put_name-requires : tie.Need-put_name-size_at-requires
+put_name-requires c κs = search rules
 
-put-name-requires : tie.Need-put-name-requires
-put-name-requires c κs = search rules
+put_field-requires : tie.Need-put_field-requires
+put_field-requires c κs = search rules
 
-put-field-requires : tie.Need-put-field-requires
-put-field-requires c κs = search rules
-
-same_length : tie.Need-same-length
+same_length : tie.Need-shape_of-out
 same_length c = search rules
 
 returns : tie.Need-returns
 returns c =
-    let start = c.before.before.before.before.before.before.before.before.before.before.before.before.before.before in
-    let word = c.before.before.before.before.before.before.before.before.before.before.put-bytes.ensures in
-    let name = c.before.before.before.before.before.before.put-name.ensures in
+    let start = c in
+    let word = c.put_bytes-name_at.ensures in
+    let name = c.put_name-size_at.ensures in
     wrote_as (more_text (name_of start.args.field) start.args.size)
-    (wrote_then (omega (arith, word.ends, name.1)) (wrote_then (omega (arith, word.ends)) word name.0) c.before.before.put-field.ensures.0)
+    (wrote_then (omega (arith, word.ends, name.1)) (wrote_then (omega (arith, word.ends)) word name.0) c.put_field.ensures.0)
 
-pub put-more-spec : {M : Type 1} → statement M
-put-more-spec =
+pub put_more_spec : {M : Type 1} → statement M
+put_more_spec =
     tie.close
     (tie.spec
-    slice-aggregate-put-bytes
-    put-bytes-requires
-    put-name-requires
-    put-field-requires
+    put_bytes-requires
+    put_name-requires
+    put_field-requires
     same_length
     returns)

@@ -7,26 +7,23 @@ use borrow.Author.Rules.{rules}
 use Rattle.why_text.proofs.text.put_not_plain.Statement.{statement}
 use Rattle.why_text.proofs.text.put_not_plain.Tie as tie
 
-slice-aggregate-put-bytes : tie.Need-slice-aggregate-put-bytes
-slice-aggregate-put-bytes c = search rules
+put_bytes-requires : tie.Need-put_bytes-place_at-requires
+put_bytes-requires c κs = search rules
 
-put-bytes-requires : tie.Need-put-bytes-requires
-put-bytes-requires c κs = search rules
+put_place-requires : tie.Need-put_place-requires
+put_place-requires c κs = search rules
 
-put-place-requires : tie.Need-put-place-requires
-put-place-requires c κs = search rules
-
-same_length : tie.Need-same-length
+same_length : tie.Need-shape_of-out
 same_length c = search rules
 
 returns : tie.Need-returns
 returns c =
-    let start = c.before.before.before.before.before.before.before.before.before.before in
-    let word = c.before.before.before.before.before.before.put-bytes.ensures in
+    let start = c in
+    let word = c.put_bytes-place_at.ensures in
     wrote_as (not_plain_text (name_of start.args.field) start.args.offset start.args.found (wanted_of start.args.wanted))
-    (wrote_then (omega (arith, word.ends)) word c.before.before.put-place.ensures)
+    (wrote_then (omega (arith, word.ends)) word c.put_place.ensures)
 
-pub put-not-plain-spec : {M : Type 1} → statement M
-put-not-plain-spec =
+pub put_not_plain_spec : {M : Type 1} → statement M
+put_not_plain_spec =
     tie.close
-    (tie.spec slice-aggregate-put-bytes put-bytes-requires put-place-requires same_length returns)
+    (tie.spec put_bytes-requires put_place-requires same_length returns)

@@ -8,37 +8,37 @@ use borrow.Author.Rules.{rules}
 use Rattle.why_text.proofs.text.put_place.Statement.{statement}
 use Rattle.why_text.proofs.text.put_place.Tie as tie
 
-put-name-requires : tie.Need-put-name-requires
-put-name-requires c κs = search rules
+put_name-requires : tie.Need-put_name-offset_at-requires
+put_name-requires c κs = search rules
 
-put-field-requires : tie.Need-put-field-requires
-put-field-requires c κs = search rules
+put_field-requires : tie.Need-put_field-found_at-requires
+put_field-requires c κs = search rules
 
-put-field-requires-2 : tie.Need-put-field-requires-2
-put-field-requires-2 c κs = search rules
+put_field-requires-2 : tie.Need-put_field-wanted_at-requires
+put_field-requires-2 c κs = search rules
 
-put-wanted-requires : tie.Need-put-wanted-requires
-put-wanted-requires c κs = search rules
+put_wanted-requires : tie.Need-put_wanted-requires
+put_wanted-requires c κs = search rules
 
-same_length : tie.Need-same-length
+same_length : tie.Need-shape_of-out
 same_length c = search rules
 
 returns : tie.Need-returns
 returns c =
-    let start = c.before.before.before.before.before.before.before.before.before.before.before.before.before.before.before.before.before in
-    let name = c.before.before.before.before.before.before.before.before.before.before.before.before.before.before.put-name.ensures in
-    let offset = c.before.before.before.before.before.before.before.before.before.before.put-field.ensures in
-    let value = c.before.before.before.before.before.before.put-field2.ensures in
+    let start = c in
+    let name = c.put_name-offset_at.ensures in
+    let offset = c.put_field-found_at.ensures in
+    let value = c.put_field-wanted_at.ensures in
     wrote_as (place_text_lem (text (name_of start.args.field)) start.args.offset start.args.found (wanted_of start.args.wanted))
-    (wrote_then (omega (arith, name.1, offset.1, value.1)) (wrote_then (omega (arith, name.1, offset.1)) (wrote_then (omega (arith, name.1)) name.0 offset.0) value.0) c.before.before.put_wanted.ensures)
+    (wrote_then (omega (arith, name.1, offset.1, value.1)) (wrote_then (omega (arith, name.1, offset.1)) (wrote_then (omega (arith, name.1)) name.0 offset.0) value.0) c.put_wanted.ensures)
 
-pub put-place-spec : {M : Type 1} → statement M
-put-place-spec =
+pub put_place_spec : {M : Type 1} → statement M
+put_place_spec =
     tie.close
     (tie.spec
-    put-name-requires
-    put-field-requires
-    put-field-requires-2
-    put-wanted-requires
+    put_name-requires
+    put_field-requires
+    put_field-requires-2
+    put_wanted-requires
     same_length
     returns)

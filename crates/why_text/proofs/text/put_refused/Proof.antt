@@ -7,36 +7,32 @@ use borrow.Author.Rules.{rules}
 use Rattle.why_text.proofs.text.put_refused.Statement.{statement}
 use Rattle.why_text.proofs.text.put_refused.Tie as tie
 
-slice-aggregate-put-bytes : tie.Need-slice-aggregate-put-bytes
-slice-aggregate-put-bytes c = search rules
+put_bytes-requires : tie.Need-put_bytes-number_at-requires
+put_bytes-requires c κs = search rules
 
-put-bytes-requires : tie.Need-put-bytes-requires
-put-bytes-requires c κs = search rules
+put_field-requires : tie.Need-put_field-place_at-requires
+put_field-requires c κs = search rules
 
-put-field-requires : tie.Need-put-field-requires
-put-field-requires c κs = search rules
+put_place-requires : tie.Need-put_place-requires
+put_place-requires c κs = search rules
 
-put-place-requires : tie.Need-put-place-requires
-put-place-requires c κs = search rules
-
-same_length : tie.Need-same-length
+same_length : tie.Need-shape_of-out
 same_length c = search rules
 
 returns : tie.Need-returns
 returns c =
-    let start = c.before.before.before.before.before.before.before.before.before.before.before.before.before.before in
-    let word = c.before.before.before.before.before.before.before.before.before.before.put-bytes.ensures in
-    let code = c.before.before.before.before.before.before.put-field.ensures in
+    let start = c in
+    let word = c.put_bytes-number_at.ensures in
+    let code = c.put_field-place_at.ensures in
     wrote_as (refused_text start.args.number (name_of start.args.field) start.args.offset start.args.found (wanted_of start.args.wanted))
-    (wrote_then (omega (arith, word.ends, code.1)) (wrote_then (omega (arith, word.ends)) word code.0) c.before.before.put-place.ensures)
+    (wrote_then (omega (arith, word.ends, code.1)) (wrote_then (omega (arith, word.ends)) word code.0) c.put_place.ensures)
 
-pub put-refused-spec : {M : Type 1} → statement M
-put-refused-spec =
+pub put_refused_spec : {M : Type 1} → statement M
+put_refused_spec =
     tie.close
     (tie.spec
-    slice-aggregate-put-bytes
-    put-bytes-requires
-    put-field-requires
-    put-place-requires
+    put_bytes-requires
+    put_field-requires
+    put_place-requires
     same_length
     returns)

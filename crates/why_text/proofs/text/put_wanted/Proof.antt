@@ -3,63 +3,55 @@ use borrow.Author.Rules.{rules}
 use Rattle.why_text.proofs.text.put_wanted.Statement.{statement}
 use Rattle.why_text.proofs.text.put_wanted.Tie as tie
 
-enum-known-wanted : tie.Need-enum-known-wanted
-enum-known-wanted c = search rules
+enum_known-wanted : tie.Need-enum_known-wanted
+enum_known-wanted c = search rules
 
-put-field-requires : tie.Need-put-field-requires
-put-field-requires c κs = search rules
+put_field-requires : tie.Need-put_field-requires
+put_field-requires c κs = search rules
 
-enum_told : tie.Need-enum-told
+enum_told : tie.Need-enum_told-1
 enum_told c = search rules
 
-slice-aggregate-put-bytes : tie.Need-slice-aggregate-put-bytes
-slice-aggregate-put-bytes c = search rules
+put_bytes-requires : tie.Need-put_bytes-requires
+put_bytes-requires c κs = search rules
 
-put-bytes-requires : tie.Need-put-bytes-requires
-put-bytes-requires c κs = search rules
+enum_told-2 : tie.Need-enum_told-in-ValueTypes
+enum_told-2 c = search rules
 
-enum-told-2 : tie.Need-enum-told-2
-enum-told-2 c = search rules
+put_bytes-requires-2 : tie.Need-put_bytes-requires-in-ValueTypes
+put_bytes-requires-2 c κs = search rules
 
-slice-aggregate-put-bytes-2 : tie.Need-slice-aggregate-put-bytes-2
-slice-aggregate-put-bytes-2 c = search rules
-
-put-bytes-requires-2 : tie.Need-put-bytes-requires-2
-put-bytes-requires-2 c κs = search rules
-
-same_length : tie.Need-same-length
+same_length : tie.Need-shape_of-out-in-Number
 same_length c = search rules
 
-returns : tie.Need-returns
-returns c = rw c.before.before.before.before.before.wanted.given.1 c.before.before.put-field.ensures.0
+returns : tie.Need-returns-in-Number
+returns c = rw c.in-Number.is c.put_field.ensures.0
 
-same-length-2 : tie.Need-same-length-2
-same-length-2 c = search rules
+same_length-2 : tie.Need-shape_of-out-in-LiveTypes
+same_length-2 c = search rules
 
-returns-2 : tie.Need-returns-2
-returns-2 c = rw c.before.before.before.before.before.enum_told.given.1 c.before.before.put-bytes.ensures
+returns-2 : tie.Need-returns-in-LiveTypes
+returns-2 c = rw c.in-LiveTypes.is c.put_bytes.ensures
 
-same-length-3 : tie.Need-same-length-3
-same-length-3 c = search rules
+same_length-3 : tie.Need-shape_of-out-in-ValueTypes
+same_length-3 c = search rules
 
-returns-3 : tie.Need-returns-3
-returns-3 c = rw c.before.before.before.before.before.enum-told2.given.1 c.before.before.put-bytes2.ensures
+returns-3 : tie.Need-returns-in-ValueTypes
+returns-3 c = rw c.in-ValueTypes.is c.put_bytes-in-ValueTypes.ensures
 
-pub put-wanted-spec : {M : Type 1} → statement M
-put-wanted-spec =
+pub put_wanted_spec : {M : Type 1} → statement M
+put_wanted_spec =
     tie.close
     (tie.spec
-    enum-known-wanted
-    put-field-requires
+    enum_known-wanted
+    put_field-requires
     enum_told
-    slice-aggregate-put-bytes
-    put-bytes-requires
-    enum-told-2
-    slice-aggregate-put-bytes-2
-    put-bytes-requires-2
+    put_bytes-requires
+    enum_told-2
+    put_bytes-requires-2
     same_length
     returns
-    same-length-2
+    same_length-2
     returns-2
-    same-length-3
+    same_length-3
     returns-3)
