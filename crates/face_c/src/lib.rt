@@ -1,6 +1,7 @@
 // The static library for C, C++ and Rust: each function of `face` and of the crates `face_*` once more, under its own
 // name and with its own statement, as an export that calls it. The header is ../../face/face.h.
-// A library exports nothing, and no crate can use a static library: so the exports stand by themselves.
+// A library exports nothing, and no crate can use a static library: so the exports stand by themselves. That of
+// `face_packet_write` stands in `face_packet_write_c`.
 #![tactic(auto)]
 
 ghost use Rattle.face.specs.Version.{InterfaceIs};
@@ -9,7 +10,6 @@ mod checksums;
 mod errors;
 mod ids;
 mod notes;
-mod packet_write;
 mod packets;
 mod parts;
 mod rowsets;

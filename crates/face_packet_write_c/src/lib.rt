@@ -1,4 +1,7 @@
-// Packets written from a lent part table.
+// The export of `face_packet_write`, as `face_c` has those of the others. It is a static library of its own, and so an
+// object of its own: what reads packets is then compiled with loops of the checksum's engine that copy nothing.
+#![tactic(auto)]
+
 ghost use Rattle.face_packet_write.specs.Statement.{Encodes};
 
 use words::outcome::Outcome;
