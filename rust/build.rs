@@ -54,6 +54,19 @@ fn given(folder: &Path) -> Result<PathBuf, String> {
     Ok(folder.to_path_buf())
 }
 
+/// What the archive is made of: the script, the list of crates and their sources, beside which `rt` keeps its own work.
+fn sources(root: &Path) -> Vec<PathBuf> {
+    let mut found = vec![root.join("tools/archive"), root.join("crates.txt")];
+    let folders = root.join("crates").read_dir().into_iter().flatten();
+    for folder in folders.flatten() {
+        for part in ["src", "specs", "proofs"] {
+            found.push(folder.path().join(part));
+        }
+    }
+    found.retain(|source| source.exists());
+    found
+}
+
 /// The folder of the archive that the repository's script makes for this machine.
 fn made() -> Result<PathBuf, String> {
     let hint = format!("or set {VARIABLE} to a folder that has {ARCHIVE} for the target processor");
@@ -73,11 +86,8 @@ fn made() -> Result<PathBuf, String> {
             "there is no tools/archive beside the crate: build it in a clone of the repository, {hint}"
         ));
     }
-    for source in ["crates", "crates.txt", "tools/archive"] {
-        println!(
-            "cargo:rerun-if-changed={}",
-            root.join(source).to_string_lossy()
-        );
+    for source in sources(&root) {
+        println!("cargo:rerun-if-changed={}", source.to_string_lossy());
     }
     // What it says of its progress goes where this script's does: cargo shows it with -vv, and where
     // the script fails.

@@ -1255,14 +1255,16 @@ impl Draw {
     }
 }
 
-/// What a proved program prints of an input, where it is at hand: named by a variable, or built in the repository's
-/// `target`. `nothing` is what it says of no input.
+/// What a proved program prints of an input, where it is at hand: named by a variable, or built in its crate's `out`.
+/// `nothing` is what it says of no input.
 fn proved(name: &str, nothing: &str) -> Option<impl Fn(&[u8]) -> String> {
     let line = match env::var(format!("CABLEFINCH_{}", name.to_ascii_uppercase())) {
         Ok(line) => line.split(' ').map(str::to_string).collect(),
         Err(_) => vec![
             repository()
-                .join("target/bin")
+                .join("crates")
+                .join(name)
+                .join("out")
                 .join(name)
                 .to_string_lossy()
                 .into_owned(),
