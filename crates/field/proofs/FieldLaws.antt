@@ -11,26 +11,25 @@ use Rattle.words.proofs.DecideLaws.{pick_case}
 use Rattle.varint.specs.Varint.{varint_at, varint_end, whole_varint}
 use Rattle.varint.specs.Statement.{ReadsVarint}
 use Rattle.varint.specs.declared.read.Varint.{Varint}
-use Rattle.varint.specs.declared.read.Varint.TheVariants.{Whole, Broken}
+use Rattle.std.specs.declared.option.Option.{Option}
+use Rattle.std.specs.declared.option.Option.TheVariants.{Some, None}
 use Rattle.varint.proofs.VarintLaws.{size_least, whole_end}
 use Rattle.field.specs.Field.{payload_value, payload_content, payload_stop, whole_payload, tag_at, type_at, stop_at, whole_field}
-use Rattle.field.specs.Stages.{ReadsPayload}
+use Rattle.field.specs.Stages.{ReadsPayload, ReadsFixed}
 use Rattle.field.specs.Statement.{ReadsField}
 use Rattle.field.specs.declared.field.Payload.{Payload}
-use Rattle.field.specs.declared.field.Payload.TheVariants as P
-use Rattle.field.specs.declared.field.Field.TheVariants as F
 
-module _ (s : List ℕ) (at end : ℕ) (r : Varint) (reads : ReadsVarint s at end r) where
-  pub number_cut : r ≡ Broken → ReadsPayload 0 s at end P.Cut
+module _ (s : List ℕ) (at end : ℕ) (r : Option Varint) (reads : ReadsVarint s at end r) where
+  pub number_cut : r ≡ None → ReadsPayload 0 s at end None
   unfolding whole_payload
   number_cut e = rw e at reads
 
-  pub bytes_cut : r ≡ Broken → ReadsPayload 2 s at end P.Cut
+  pub bytes_cut : r ≡ None → ReadsPayload 2 s at end None
   unfolding whole_payload
   bytes_cut e = let no : whole_varint s at end ≡ false = rw e at reads in rw no
 
-  module _ (value next : ℕ) (e : r ≡ Whole value next) where
-    is_whole : ReadsVarint s at end (Whole value next)
+  module _ (value next : ℕ) (e : r ≡ Some record { value = value; next = next; }) where
+    is_whole : ReadsVarint s at end (Some record { value = value; next = next; })
     is_whole = rw e at reads
 
     pub next_within : (at < next) × (next ≤ end) × (end ≤ length s)
@@ -39,13 +38,13 @@ module _ (s : List ℕ) (at end : ℕ) (r : Varint) (reads : ReadsVarint s at en
         let there : next ≡ varint_end s at = is_whole.2 in
         (omega arith, omega arith, omega arith)
 
-    pub number_held : ReadsPayload 0 s at end (P.Held value next next)
+    pub number_held : ReadsPayload 0 s at end (Some record { value = value; content = next; stop = next; })
     unfolding whole_payload payload_value payload_content payload_stop
     number_held =
         let far : (at < next) × (next ≤ end) × (end ≤ length s) = next_within in
         (is_whole.0, is_whole.1, is_whole.2, is_whole.2, omega arith, omega arith, omega arith)
 
-    pub bytes_long : end - next < value → ReadsPayload 2 s at end P.Cut
+    pub bytes_long : end - next < value → ReadsPayload 2 s at end None
     unfolding whole_payload
     bytes_long h =
         let yes : whole_varint s at end ≡ true = is_whole.0 in
@@ -54,7 +53,7 @@ module _ (s : List ℕ) (at end : ℕ) (r : Varint) (reads : ReadsVarint s at en
         let far : (at < next) × (next ≤ end) × (end ≤ length s) = next_within in
         rw (yes, le-ltb (varint_end s at + varint_at s at) (end + 1) (omega arith))
 
-    pub bytes_held : value ≤ end - next → ReadsPayload 2 s at end (P.Held value next (next + value))
+    pub bytes_held : value ≤ end - next → ReadsPayload 2 s at end (Some record { value = value; content = next; stop = (next + value); })
     unfolding whole_payload payload_value payload_content payload_stop
     bytes_held h =
         let yes : whole_varint s at end ≡ true = is_whole.0 in
@@ -65,54 +64,48 @@ module _ (s : List ℕ) (at end : ℕ) (r : Varint) (reads : ReadsVarint s at en
 
 -- the fixed sizes
 module _ (s : List ℕ) (at end : ℕ) (within : at ≤ end) where
-  pub long_cut : end - at < 8 → ReadsPayload 1 s at end P.Cut
-  unfolding whole_payload
-  long_cut h = rw (le-ltb (at + 8) (end + 1) (omega arith))
-
-  pub long_held : 8 ≤ end - at → ReadsPayload 1 s at end (P.Held 0 at (at + 8))
+  pub long : (r : Option Payload) → ReadsFixed 8 at end r → ReadsPayload 1 s at end r
   unfolding whole_payload payload_value payload_content payload_stop
-  long_held h = (rw (lt-ltb (at + 8) (end + 1) (omega arith)), refl, refl, refl, omega arith, omega arith, omega arith)
+  long (Some p) f = (rw (lt-ltb (at + 8) (end + 1) (omega arith)), f.1, f.2, f.3, omega arith, omega arith, omega arith)
+  long None f = rw (le-ltb (at + 8) (end + 1) (omega arith))
 
-  pub short_cut : end - at < 4 → ReadsPayload 5 s at end P.Cut
-  unfolding whole_payload
-  short_cut h = rw (le-ltb (at + 4) (end + 1) (omega arith))
-
-  pub short_held : 4 ≤ end - at → ReadsPayload 5 s at end (P.Held 0 at (at + 4))
+  pub short : (r : Option Payload) → ReadsFixed 4 at end r → ReadsPayload 5 s at end r
   unfolding whole_payload payload_value payload_content payload_stop
-  short_held h = (rw (lt-ltb (at + 4) (end + 1) (omega arith)), refl, refl, refl, omega arith, omega arith, omega arith)
+  short (Some p) f = (rw (lt-ltb (at + 4) (end + 1) (omega arith)), f.1, f.2, f.3, omega arith, omega arith, omega arith)
+  short None f = rw (le-ltb (at + 4) (end + 1) (omega arith))
 
-pub of_type : (s : List ℕ) (at end : ℕ) {type : ℕ} (n : ℕ) (r : Payload) → type ≡ n → ReadsPayload n s at end r → ReadsPayload type s at end r
+pub of_type : (s : List ℕ) (at end : ℕ) {type : ℕ} (n : ℕ) (r : Option Payload) → type ≡ n → ReadsPayload n s at end r → ReadsPayload type s at end r
 of_type s at end n r e reads = rw e reads
 
-pub no_type : (s : List ℕ) (at end type : ℕ) → (type ≡ 0 → ⊥) → (type ≡ 2 → ⊥) → (type ≡ 1 → ⊥) → (type ≡ 5 → ⊥) → ReadsPayload type s at end P.Cut
+pub no_type : (s : List ℕ) (at end type : ℕ) → (type ≡ 0 → ⊥) → (type ≡ 2 → ⊥) → (type ≡ 1 → ⊥) → (type ≡ 5 → ⊥) → ReadsPayload type s at end None
 unfolding whole_payload
 no_type s at end type zero two one five = rw (ne_eqb type 0 zero, ne_eqb type 1 one, ne_eqb type 2 two, ne_eqb type 5 five)
 
 -- The tag, then the payload
-module _ (s : List ℕ) (at end : ℕ) (r : Varint) (reads : ReadsVarint s at end r) where
-  pub tag_cut : r ≡ Broken → ReadsField s at end F.Broken
+module _ (s : List ℕ) (at end : ℕ) (r : Option Varint) (reads : ReadsVarint s at end r) where
+  pub tag_cut : r ≡ None → ReadsField s at end None
   unfolding whole_field
   tag_cut e = let no : whole_varint s at end ≡ false = rw e at reads in rw no
 
-  module _ (tag next : ℕ) (e : r ≡ Whole tag next) where
-    tag_whole : ReadsVarint s at end (Whole tag next)
+  module _ (tag next : ℕ) (e : r ≡ Some record { value = tag; next = next; }) where
+    tag_whole : ReadsVarint s at end (Some record { value = tag; next = next; })
     tag_whole = rw e at reads
 
-    pub tag_large : 0xffff_ffff < tag → ReadsField s at end F.Broken
+    pub tag_large : 0xffff_ffff < tag → ReadsField s at end None
     unfolding whole_field
     tag_large h =
         let v : tag ≡ varint_at s at = tag_whole.1 in
         rw (tag_whole.0, le-ltb (tag_at s at) 0x1_0000_0000 (omega arith))
 
     module _ (low : tag ≤ 0xffff_ffff) where
-      pub tag_zero : tag < 8 → ReadsField s at end F.Broken
+      pub tag_zero : tag < 8 → ReadsField s at end None
       unfolding whole_field
       tag_zero h =
           let v : tag ≡ varint_at s at = tag_whole.1 in
           rw (tag_whole.0, lt-ltb (tag_at s at) 0x1_0000_0000 (omega arith), le-ltb 7 (tag_at s at) (omega arith))
 
-      module _ (some : 8 ≤ tag) (p : Payload) (held : ReadsPayload (tag % 8) s next end p) where
-        pub field_cut : p ≡ P.Cut → ReadsField s at end F.Broken
+      module _ (some : 8 ≤ tag) (p : Option Payload) (held : ReadsPayload (tag % 8) s next end p) where
+        pub field_cut : p ≡ None → ReadsField s at end None
         unfolding whole_field
         field_cut q =
             let v : tag ≡ varint_at s at = tag_whole.1 in
@@ -120,13 +113,13 @@ module _ (s : List ℕ) (at end : ℕ) (r : Varint) (reads : ReadsVarint s at en
             let no : whole_payload (tag % 8) s next end ≡ false = rw q at held in
             rw (tag_whole.0, lt-ltb (tag_at s at) 0x1_0000_0000 (omega arith), lt-ltb 7 (tag_at s at) (omega arith), ← v, ← there, no)
 
-        pub field_whole : (value content stop : ℕ) → p ≡ P.Held value content stop → ReadsField s at end (F.Whole (tag / 8) (tag % 8) value content stop)
+        pub field_whole : (value content stop : ℕ) → p ≡ Some record { value = value; content = content; stop = stop; } → ReadsField s at end (Some record { number = tag / 8; wire = tag % 8; value = value; content = content; stop = stop; })
         unfolding whole_field
         field_whole value content stop q =
             let v : tag ≡ varint_at s at = tag_whole.1 in
             let there : next ≡ varint_end s at = tag_whole.2 in
             let far : (at < next) × (next ≤ end) × (end ≤ length s) = next_within s at end r reads tag next e in
-            let all : ReadsPayload (tag % 8) s next end (P.Held value content stop) = rw q at held in (
+            let all : ReadsPayload (tag % 8) s next end (Some record { value = value; content = content; stop = stop; }) = rw q at held in (
               rw (tag_whole.0, lt-ltb (tag_at s at) 0x1_0000_0000 (omega arith), lt-ltb 7 (tag_at s at) (omega arith), ← v, ← there) all.0,
               rw v,
               rw v,

@@ -10,7 +10,7 @@ use Rattle.words.specs.Decide.{◌<?◌}
 use Rattle.words.proofs.DecideLaws.{pick_case}
 use Rattle.varint.specs.Varint.{size_in, value_in, varint_at, varint_end}
 use Rattle.varint.specs.Statement.{ReadsVarint}
-use Rattle.varint.specs.declared.read.Varint.TheVariants.{Whole, Broken}
+use Rattle.std.specs.declared.option.Option.TheVariants.{Some, None}
 use Rattle.varint.proofs.VarintLaws.{size_least, size_last, value_last, size_more, value_more, whole_is, cut_off, too_long, too_large}
 
 -- `left` bytes and a last one may still come
@@ -53,11 +53,11 @@ module _ {s : List ℕ} {start at value weight left : ℕ} (r : Running s start 
   pub scaled : (d n : ℕ) → d ≤ n → weight * d ≤ weight * n
   scaled d n h = mul-le-mul_left weight h
 
-  pub stops : (end : ℕ) → end ≤ length s → end ≤ at → ReadsVarint s start end Broken
+  pub stops : (end : ℕ) → end ≤ length s → end ≤ at → ReadsVarint s start end None
   stops end there h = let one : 1 ≤ size_in (suc left) s at = size_least (suc left) s at in cut_off s start end there (omega (arith, r.ends))
 
   module _ (end byte : ℕ) (there : end ≤ length s) (more : at < end) (is : byte ≡ get_or s at 0) where
-    pub last_whole : byte < 128 → value + weight * byte < 0x1_0000_0000_0000_0000 → ReadsVarint s start end (Whole (value + weight * byte) (at + 1))
+    pub last_whole : byte < 128 → value + weight * byte < 0x1_0000_0000_0000_0000 → ReadsVarint s start end (Some record { value = value + weight * byte; next = at + 1; })
     last_whole h fits =
         let b : get_or s at 0 < 128 = rw is at h in
         let one : size_in (suc left) s at ≡ 1 = size_last left s at b in
@@ -87,7 +87,7 @@ module _ {s : List ℕ} {start at value weight left : ℕ} (r : Running s start 
     weight_is : weight ≡ 0x8000_0000_0000_0000
     weight_is = let z : left ≡ 0 = omega arith in sym (mul-one weight) ∙ rw z at r.weighs
 
-    pub last_broken : (end byte : ℕ) → end ≤ length s → at < end → byte ≡ get_or s at 0 → 1 < byte → ReadsVarint s start end Broken
+    pub last_broken : (end byte : ℕ) → end ≤ length s → at < end → byte ≡ get_or s at 0 → 1 < byte → ReadsVarint s start end None
     unfolding size_in
     last_broken end byte there more is h =
         let z : left ≡ 0 = omega arith in

@@ -9,14 +9,14 @@ use Rattle.words.specs.Statement.{OneResult}
 use Rattle.words.proofs.Unique.{equal_to_one}
 use Rattle.varint.specs.Varint.{varint}
 use Rattle.varint.specs.Statement.{ReadsVarint, SizesVarint, WritesVarint}
-use Rattle.varint.specs.declared.read.Varint.TheVariants.{Whole, Broken}
+use Rattle.std.specs.declared.option.Option.TheVariants.{Some, None}
 
 pub read_varint_unique : (s : List ℕ) (at end : ℕ) → OneResult (ReadsVarint s at end)
-read_varint_unique s at end (Whole value next) (Whole value' next') p q =
-    λ i. Whole ((p.1 ∙ sym q.1) i) ((p.2 ∙ sym q.2) i)
-read_varint_unique s at end (Whole value next) Broken p q = absurd (true≢false (sym p.0 ∙ q))
-read_varint_unique s at end Broken (Whole value next) p q = absurd (true≢false (sym q.0 ∙ p))
-read_varint_unique s at end Broken Broken p q = λ i. Broken
+read_varint_unique s at end (Some v) (Some v') p q =
+    λ i. Some record { value = (p.1 ∙ sym q.1) i; next = (p.2 ∙ sym q.2) i; }
+read_varint_unique s at end (Some v) None p q = absurd (true≢false (sym p.0 ∙ q))
+read_varint_unique s at end None (Some v) p q = absurd (true≢false (sym q.0 ∙ p))
+read_varint_unique s at end None None p q = λ i. None
 
 pub varint_size_unique : (n : ℕ) → OneResult (SizesVarint n)
 varint_size_unique n = equal_to_one (length (varint n))

@@ -1,16 +1,15 @@
 -- What each public function promises, by name, over the inputs, the result and the lent part at entry and at exit.
 -- Assumes nothing.
-use Rattle.std.specs.Prelude.{ℕ, ◌≡◌, true, false, List, length}
+use Rattle.std.specs.Prelude.{ℕ, ◌≡◌, true, false, List, length, Option, Some, None}
 use Rattle.words.specs.Statement.{Leaves}
 use Rattle.varint.specs.Varint.{varint_at, varint_end, whole_varint, varint}
 use Rattle.varint.specs.declared.read.Varint.{Varint}
-use Rattle.varint.specs.declared.read.Varint.TheVariants.{Whole, Broken}
 
 -- the varint at `at`, and where it ends; or none that ends by `end`
-abbrev pub ReadsVarint : List ℕ → ℕ → ℕ → Varint → Type 0
-ReadsVarint s at end (Whole value next) =
-    (whole_varint s at end ≡ true) × (value ≡ varint_at s at) × (next ≡ varint_end s at)
-ReadsVarint s at end Broken = whole_varint s at end ≡ false
+abbrev pub ReadsVarint : List ℕ → ℕ → ℕ → Option Varint → Type 0
+ReadsVarint s at end (Some v) =
+    (whole_varint s at end ≡ true) × (v.value ≡ varint_at s at) × (v.next ≡ varint_end s at)
+ReadsVarint s at end None = whole_varint s at end ≡ false
 
 -- how many bytes the shortest varint of n has
 abbrev pub SizesVarint : ℕ → ℕ → Type 0

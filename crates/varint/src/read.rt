@@ -3,11 +3,11 @@
 ghost use Rattle.std.specs.Prelude.{◌≡◌, ◌≤◌, ◌<◌, length};
 ghost use Rattle.varint.specs.Statement.{ReadsVarint};
 
+// A varint that is whole: its value, and where what comes behind it begins.
 #[derive(Clone, Copy)]
-pub enum Varint {
-    // The value, and where the varint ends.
-    Whole(u64, usize),
-    Broken,
+pub struct Varint {
+    pub value: u64,
+    pub next: usize,
 }
 
 // A byte as a number to reckon with.
@@ -18,7 +18,7 @@ fn wide(byte: u8) -> u64
 }
 
 // The varint at `start`, where the input is known to reach to `end`.
-fn read_within(input: &[u8], start: usize, end: usize) -> Varint
+fn read_within(input: &[u8], start: usize, end: usize) -> Option<Varint>
     requires { end ≤ length input.now }
     ensures { ReadsVarint input.now start end result }
 {
@@ -28,11 +28,14 @@ fn read_within(input: &[u8], start: usize, end: usize) -> Varint
     let mut left: usize = 9;
     while 0 < left {
         if end <= at {
-            return Varint::Broken;
+            return None;
         }
         let byte = wide(input[at]);
         if byte < 128 {
-            return Varint::Whole(value + weight * byte, at + 1);
+            return Some(Varint {
+                value: value + weight * byte,
+                next: at + 1,
+            });
         }
         value += weight * (byte - 128);
         weight *= 128;
@@ -40,21 +43,24 @@ fn read_within(input: &[u8], start: usize, end: usize) -> Varint
         left -= 1;
     }
     if end <= at {
-        return Varint::Broken;
+        return None;
     }
     let last = wide(input[at]);
     if 1 < last {
-        return Varint::Broken;
+        return None;
     }
-    Varint::Whole(value + weight * last, at + 1)
+    Some(Varint {
+        value: value + weight * last,
+        next: at + 1,
+    })
 }
 
 // The varint at `start`, where it ends by `end`.
-pub fn read_varint(input: &[u8], start: usize, end: usize) -> Varint
+pub fn read_varint(input: &[u8], start: usize, end: usize) -> Option<Varint>
     ensures { ReadsVarint input.now start end result }
 {
     if input.len() < end {
-        return Varint::Broken;
+        return None;
     }
     read_within(input, start, end)
 }
