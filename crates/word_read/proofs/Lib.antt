@@ -1,2 +1,3 @@
 -- One result for each statement, and the proofs of the functions.
 pub mod Unique
+pub mod WordBytes

@@ -5,27 +5,27 @@
 ghost use Rattle.std.specs.Prelude.{◌+◌, ◌≤◌, length};
 ghost use Rattle.words.specs.Statement.{ReadsWord};
 
-// Where the whole word is there the bytes are joined with no test between them, so that they become one load.
+// Where the whole word is there it is one load.
 
 fn whole_u16(s: &[u8], at: usize) -> u16
     requires { at + 2 ≤ length s.now }
     ensures { ReadsWord 2 s.now at result }
 {
-    (s[at] as u16) + 256 * (s[at + 1] as u16)
+    u16::from_le_bytes(s[at..at + 2].try_into().unwrap())
 }
 
 fn whole_u32(s: &[u8], at: usize) -> u32
     requires { at + 4 ≤ length s.now }
     ensures { ReadsWord 4 s.now at result }
 {
-    (whole_u16(s, at) as u32) + 0x1_0000 * (whole_u16(s, at + 2) as u32)
+    u32::from_le_bytes(s[at..at + 4].try_into().unwrap())
 }
 
 fn whole_u64(s: &[u8], at: usize) -> u64
     requires { at + 8 ≤ length s.now }
     ensures { ReadsWord 8 s.now at result }
 {
-    (whole_u32(s, at) as u64) + 0x1_0000_0000 * (whole_u32(s, at + 4) as u64)
+    u64::from_le_bytes(s[at..at + 8].try_into().unwrap())
 }
 
 // The two bytes at `at` as a word.

@@ -10,42 +10,21 @@ ghost use Rattle.words.specs.Statement.{Leaves};
 pub fn write_u16(out: &mut [u8], short: u16)
     ensures { Leaves (bytes_of 2 short) out.old out.new }
 {
-    if out.len() < 2 {
-        return;
-    }
-    out[0] = (short % 256) as u8;
-    out[1] = (short / 256 % 256) as u8;
+    write_bytes(out, &short.to_le_bytes());
 }
 
 // Writes a word of four bytes.
 pub fn write_u32(out: &mut [u8], word: u32)
     ensures { Leaves (bytes_of 4 word) out.old out.new }
 {
-    if out.len() < 4 {
-        return;
-    }
-    out[0] = (word % 256) as u8;
-    out[1] = (word / 256 % 256) as u8;
-    out[2] = (word / 256 / 256 % 256) as u8;
-    out[3] = (word / 256 / 256 / 256 % 256) as u8;
+    write_bytes(out, &word.to_le_bytes());
 }
 
 // Writes a word of eight bytes.
 pub fn write_u64(out: &mut [u8], long: u64)
     ensures { Leaves (bytes_of 8 long) out.old out.new }
 {
-    if out.len() < 8 {
-        return;
-    }
-    let high = long / 256 / 256 / 256 / 256;
-    out[0] = (long % 256) as u8;
-    out[1] = (long / 256 % 256) as u8;
-    out[2] = (long / 256 / 256 % 256) as u8;
-    out[3] = (long / 256 / 256 / 256 % 256) as u8;
-    out[4] = (high % 256) as u8;
-    out[5] = (high / 256 % 256) as u8;
-    out[6] = (high / 256 / 256 % 256) as u8;
-    out[7] = (high / 256 / 256 / 256 % 256) as u8;
+    write_bytes(out, &long.to_le_bytes());
 }
 
 // Writes a run of bytes.
@@ -55,11 +34,7 @@ pub fn write_bytes(out: &mut [u8], bytes: &[u8])
     if out.len() < bytes.len() {
         return;
     }
-    let mut i = 0;
-    while i < bytes.len() {
-        out[i] = bytes[i];
-        i += 1;
-    }
+    out[..bytes.len()].copy_from_slice(bytes);
 }
 
 // `count` bytes of 0.
@@ -69,9 +44,5 @@ pub fn write_zeros(out: &mut [u8], count: usize)
     if out.len() < count {
         return;
     }
-    let mut i = 0;
-    while i < count {
-        out[i] = 0;
-        i += 1;
-    }
+    out[..count].fill(0);
 }

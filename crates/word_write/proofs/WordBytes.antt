@@ -1,0 +1,29 @@
+-- What std takes for the bytes of a word is what stands on the wire. Assumes nothing.
+use mathlib.Core.Path.{◌≡◌, refl, sym, ◌∙◌, ap}
+use Prim.Native.Nat.{ℕ, zero, suc, ◌/◌, ◌%◌, ◌^◌}
+use native.Mathlib.Nat.{div-one, div-div-eq-div-mul, mul_comm, pow-succ'}
+use Rattle.std.specs.Int.{w16, w32, w64, to_le_bytes, bytes_low_first, byte_at}
+use Rattle.words.specs.Word.{bytes_of}
+
+one_byte : (i n : ℕ) → byte_at i n ≡ n / 256 ^ i % 256
+one_byte zero n = ap (λ (m : ℕ). m % 256) (sym (div-one n))
+one_byte (suc i) n = refl
+
+low_first : (i k n : ℕ) → bytes_low_first i k n ≡ bytes_of k (n / 256 ^ i)
+unfolding bytes_of
+low_first i zero n = refl
+low_first i (suc k) n =
+    let up : n / 256 ^ suc i ≡ n / 256 ^ i / 256 = ap (λ (m : ℕ). n / m) (pow-succ' 256 i ∙ mul_comm 256 (256 ^ i)) ∙ sym (div-div-eq-div-mul n (256 ^ i) 256) in
+    rw (one_byte i n, low_first (suc i) k n, up)
+
+bytes_are : (k n : ℕ) → bytes_low_first 0 k n ≡ bytes_of k n
+bytes_are k n = low_first 0 k n ∙ ap (bytes_of k) (div-one n)
+
+pub two : (n : ℕ) → to_le_bytes w16 n ≡ bytes_of 2 n
+two n = bytes_are 2 n
+
+pub four : (n : ℕ) → to_le_bytes w32 n ≡ bytes_of 4 n
+four n = bytes_are 4 n
+
+pub eight : (n : ℕ) → to_le_bytes w64 n ≡ bytes_of 8 n
+eight n = bytes_are 8 n
