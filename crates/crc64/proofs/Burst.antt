@@ -9,7 +9,6 @@ use lib.ListN.{length, take, drop, length-take, length-drop, take-append-drop}
 use lib.Seq.{get_or-drop, drop-drop}
 use lib.Pow.{pow_pos}
 use Rattle.words.specs.Word.{Bytes}
-use Rattle.crc64.specs.Polynomial.{checksum}
 use Rattle.crc64.specs.Damage.{Damaged}
 use Rattle.crc64.proofs.Digits.{fold_digits, Digits, tail_digits, digits_append, digits_in_64, digits_injective, stretch_injective}
 

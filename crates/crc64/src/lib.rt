@@ -279,10 +279,8 @@ pub fn fold_over(table: &Entries, register: u64, bytes: &[u8]) -> u64
     ensures { FoldOverIs table.now register bytes.now result }
 {
     let mut folded = register;
-    let mut i = 0;
-    while i < bytes.len() {
-        folded = table[((folded ^ bytes[i] as u64) & 0xff) as usize] ^ (folded >> 8);
-        i += 1;
+    for &byte in bytes {
+        folded = table[((folded ^ byte as u64) & 0xff) as usize] ^ (folded >> 8);
     }
     folded
 }
@@ -291,19 +289,7 @@ pub fn fold_over(table: &Entries, register: u64, bytes: &[u8]) -> u64
 pub fn swap_bytes(x: u64) -> u64
     ensures { SwapIs x result }
 {
-    let x1 = x >> 8;
-    let x2 = x1 >> 8;
-    let x3 = x2 >> 8;
-    let x4 = x3 >> 8;
-    let x5 = x4 >> 8;
-    let x6 = x5 >> 8;
-    let x7 = x6 >> 8;
-    (x % 256) * 0x100_0000_0000_0000
-        + ((x1 % 256) * 0x1_0000_0000_0000
-            + ((x2 % 256) * 0x100_0000_0000
-                + ((x3 % 256) * 0x1_0000_0000
-                    + ((x4 % 256) * 0x100_0000
-                        + ((x5 % 256) * 0x1_0000 + ((x6 % 256) * 0x100 + x7 % 256))))))
+    x.swap_bytes()
 }
 
 // The plain engine by value: the register after the bytes, both of them the polynomial's own, not byte-swapped.
