@@ -1,7 +1,7 @@
 -- What an arm of a match on a byte tells, and what its last arm does. Assumes nothing.
 use mathlib.Core.Path.{◌≡◌, sym, ap, ap₂, ◌∙◌}
 use mathlib.Core.List.{List, [], ◌∷◌}
-use Prim.Native.Nat.{ℕ, zero, suc, ◌+◌, ◌*◌, ◌/◌, ◌%◌, ◌^◌, ◌≤◌, ◌<◌}
+use Prim.Native.Nat.{ℕ, zero, suc, ◌*◌, ◌/◌, ◌%◌, ◌^◌, ◌≤◌, ◌<◌}
 use native.Mathlib.Nat.{one-mul, zero-mul, mod-lt, pow-succ', mul_assoc, mul-one}
 use native.Mathlib.Omega.{arith}
 use lib.Dec.{lit<}

@@ -8,3 +8,4 @@ pub mod Arm
 pub mod EightBytes
 pub mod Unique
 pub mod Examples
+pub mod FrontTable

@@ -2101,26 +2101,18 @@ fn fold_words(tables: &[u64], register: u64, bytes: &[u8]) -> u64
     ensures { result ≡ fold_whole tables.now register bytes.now }
 {
     let mut folded = register;
-    let mut i = 0;
-    while bytes.len() - i >= 8 {
-        folded = looked_up(tables, folded ^ word_read::read_u64(bytes, i));
-        i += 8;
+    for n in 0..bytes.len() / 8 {
+        folded = looked_up(tables, folded ^ word_read::read_u64(bytes, 8 * n));
     }
     folded
 }
 
-// The bytes from `from` on, one at a time, over the first table.
-fn fold_bytes(tables: &[u64], register: u64, bytes: &[u8], from: usize) -> u64
-    requires { (one_table ≤ length tables.now) × (from ≤ length bytes.now) }
-    ensures { result ≡ fold_over tables.now register (drop from bytes.now) }
+// One byte at a time, over the first table.
+fn fold_bytes(tables: &[u64], register: u64, bytes: &[u8]) -> u64
+    requires { one_table ≤ length tables.now }
+    ensures { result ≡ fold_over tables.now register bytes.now }
 {
-    let mut folded = register;
-    let mut i = from;
-    while i < bytes.len() {
-        folded = tables[((folded ^ bytes[i] as u64) & 0xff) as usize] ^ (folded >> 8);
-        i += 1;
-    }
-    folded
+    crc64::fold_over(tables[..ONE_TABLE].try_into().unwrap(), register, bytes)
 }
 
 // The whole words eight bytes at a step, and the tail behind them a byte at a time.
@@ -2129,7 +2121,7 @@ fn fold_eight(tables: &[u64], register: u64, bytes: &[u8]) -> u64
     ensures { result ≡ fold_eight tables.now register bytes.now }
 {
     let from = bytes.len() / 8 * 8;
-    fold_bytes(tables, fold_words(tables, register, bytes), bytes, from)
+    fold_bytes(tables, fold_words(tables, register, bytes), &bytes[from..])
 }
 
 // The register after the bytes, over lent tables: 2,048 numbers are eight tables, 256 one, and fewer none.
@@ -2140,7 +2132,7 @@ pub fn fold_lent(tables: &[u64], register: u64, bytes: &[u8]) -> u64
         return register;
     }
     if tables.len() < EIGHT_TABLES {
-        return fold_bytes(tables, register, bytes, 0);
+        return fold_bytes(tables, register, bytes);
     }
     fold_eight(tables, register, bytes)
 }
