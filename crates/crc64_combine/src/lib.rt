@@ -35,14 +35,12 @@ fn one_turn(n: u64, power: u64, register: u64) -> Turn
     let mut shifted = power;
     let mut terms = register;
     let mut own = power;
-    let mut i: u64 = 0;
-    while i < 64 {
+    for _ in 0..u64::BITS {
         product = product ^ (terms % 2) * shifted;
         square = square ^ (own % 2) * shifted;
         shifted = stepped(shifted);
         terms = terms / 2;
         own = own / 2;
-        i += 1;
     }
     if n % 2 == 0 {
         return Turn {

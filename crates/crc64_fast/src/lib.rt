@@ -15,17 +15,7 @@ fn write_low(word: u64, count: usize, out: &mut [u8])
     requires { (count ≤ 8) × (count ≤ length out.old) }
     ensures { out.new ≡ over (bytes_of count word) out.old }
 {
-    if count == 8 {
-        word_write::write_u64(out, word);
-        return;
-    }
-    let mut left = word;
-    let mut i = 0;
-    while i < count {
-        out[i] = (left % 256) as u8;
-        left = left / 256;
-        i += 1;
-    }
+    out[..count].copy_from_slice(&word.to_le_bytes()[..count]);
 }
 
 // The first bytes as a word, of which so many count; over the front of `out`, but where that is too short for all.

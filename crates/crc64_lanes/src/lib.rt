@@ -33,14 +33,12 @@ fn block(lanes: &mut [u64; 4], bytes: &[u8], i: usize, at: usize, out: &mut [u8]
         → Filling bytes.now (drop i bytes.now) before out.old i
         → Filling bytes.now (drop (i + 32) bytes.now) before out.new (i + 32)) }
 {
-    let mut l = 0;
-    while l < 4 {
+    for l in 0..4 {
         let from = i + 8 * l;
         let word = read_u64(&bytes[from..from + 8], 0);
         let to = at + 8 * l;
         word_write::write_u64(&mut out[to..to + 8], word);
         lanes[l] = crc64_far::far(lanes[l] ^ word);
-        l += 1;
     }
 }
 

@@ -1,12 +1,12 @@
 -- One turn of each loop over the window. Assumes nothing.
-use mathlib.Core.Path.{◌≡◌, refl, sym, ap, ap₂, ◌∙◌, subst}
+use mathlib.Core.Path.{◌≡◌, refl, sym, ap, ap₂, ◌∙◌}
 use mathlib.Core.List.{List, [], ◌∷◌, ◌++◌}
-use Prim.Native.Nat.{ℕ, zero, suc, ◌+◌, ◌-◌, ◌*◌, ◌≤◌, ◌<◌}
+use Prim.Native.Nat.{ℕ, zero, suc, ◌+◌, ◌-◌, ◌≤◌, ◌<◌}
 use native.Mathlib.Nat.{add-zero, add_comm, zero-add, add-suc, not-suc-le-zero, le_of_suc-le-suc}
 use native.Mathlib.Numerals.{add-one}
 use native.Mathlib.Omega.{arith}
 use lib.ListN.{length, get_or, set, take, drop, length-set, length-drop, take-append-drop}
-use lib.Seq.{get_or-drop, get_or-take, drop-set-lt, drop-drop, length-take-le, take_all}
+use lib.Seq.{get_or-drop, get_or-take, drop-set-lt, drop-drop, length-take-le}
 use lib.Bits.{bit_xor}
 use Rattle.crc64.specs.Polynomial.{fold}
 use Rattle.crc64_sparse.specs.Stages.{places, xor_front, owed, leaving, filled}
@@ -56,18 +56,12 @@ pub start : (h s : List ℕ) → h ≡ filled 0 h s
 unfolding filled
 start h s = refl
 
-pub kept : (w h s : List ℕ) {k count : ℕ} → k ≡ count → take (1856 + k) w ≡ filled k h s → take (1856 + count) w ≡ filled count h s
-kept w h s e known = subst (λ (n : ℕ). take (1856 + n) w ≡ filled n h s) e known
-
 -- ---- a loop that writes x over the front of w₀
 
 pub record Over (k : ℕ) (w x w₀ : List ℕ) : Type 0 where
   pub front : take k w ≡ take k x
   pub rest : drop k w ≡ drop k w₀
   pub long : length w ≡ length w₀
-
-pub over_none : (x w₀ : List ℕ) → Over 0 w₀ x w₀
-over_none x w₀ = record { front = refl; rest = refl; long = refl }
 
 take_more : (k : ℕ) (x : List ℕ) → k < length x → take (suc k) x ≡ take k x ++ (get_or x k 0 ∷ [])
 take_more k [] h = absurd (not-suc-le-zero h)
@@ -111,17 +105,6 @@ all_paid k w p s e le o =
     sym (take-append-drop k w)
     ∙ ap₂ (λ (t u : List ℕ). t ++ u) o.front (o.rest ∙ ap (λ (n : ℕ). drop n s) e ∙ sym (past p s le) ∙ ap (λ (n : ℕ). drop n (xor_front p s)) (sym e))
     ∙ take-append-drop k (xor_front p s)
-
--- ---- the bytes that left last come to the front
-
-pub shift_one : (k count : ℕ) (w w₀ : List ℕ) → length w₀ ≡ 5952 → (count ≤ 4096) × (k < 1856) → Over k w (drop count w₀) w₀
-    → Over (k + 1) (set w k (get_or w (count + k) 0)) (drop count w₀) w₀
-shift_one k count w w₀ full bounds o =
-    over_one k w (drop count w₀) w₀ (get_or w (count + k) 0) (omega (arith, o.long, bounds.1)) (omega (arith, length-drop count w₀, bounds.0, bounds.1))
-    (beyond k count w (drop count w₀) w₀ o ∙ sym (get_or-drop count w₀ k 0)) o
-
-pub shifted : (w w₀ : List ℕ) (k count : ℕ) → k ≡ 1856 → Over k w (drop count w₀) w₀ → take 1856 w ≡ take 1856 (drop count w₀)
-shifted w w₀ k count e o = ap (λ (n : ℕ). take n w) (sym e) ∙ o.front ∙ ap (λ (n : ℕ). take n (drop count w₀)) e
 
 -- ---- one place is paid
 
@@ -176,11 +159,3 @@ block_left n i s w w' full room gone moved =
     ap₂ (λ (h t : List ℕ). fold 0 (owed places h t)) (moved ∙ drop_take n 1856 w' ∙ ap (drop n) gone) (sym (drop-drop n i s))
     ∙ sym (left n (take 1856 w) (drop i s) (length-take-le 1856 w (omega arith)) (omega (arith, length-drop i s)))
 
-pub last_one : (k at : ℕ) (t s t₀ : List ℕ) → length t₀ ≡ 1856 → k < 1856 → at + 1856 ≤ length s → Over k t (drop at s) t₀
-    → Over (k + 1) (set t k (get_or s (at + k) 0)) (drop at s) t₀
-last_one k at t s t₀ full h room o =
-    over_one k t (drop at s) t₀ (get_or s (at + k) 0) (omega (arith, o.long)) (omega (arith, length-drop at s)) (sym (get_or-drop at s k 0)) o
-
-pub last_all : (k at : ℕ) (t s t₀ : List ℕ) → length t₀ ≡ 1856 → k ≡ 1856 → at + 1856 ≡ length s → Over k t (drop at s) t₀ → t ≡ drop at s
-last_all k at t s t₀ full e room o =
-    sym (take_all k t (omega (arith, o.long))) ∙ o.front ∙ take_all k (drop at s) (omega (arith, length-drop at s))

@@ -37,15 +37,13 @@ fn leave(window: &mut Window, bytes: &[u8], at: usize, count: usize)
         × (take (span + count) window.new
         ≡ filled count (take span window.old) (drop at bytes.now)) }
 {
-    let mut k = 0;
-    while k < count {
+    for k in 0..count {
         window[SPAN + k] = window[k]
             ^ (window[236 + k]
                 ^ (window[256 + k]
                     ^ (window[753 + k]
                         ^ (window[1180 + k]
                             ^ (window[1310 + k] ^ (window[1556 + k] ^ bytes[at + k]))))));
-        k += 1;
     }
 }
 
@@ -55,11 +53,7 @@ fn shift(window: &mut Window, count: usize)
     ensures { (length window.new ≡ window_size)
         × (take span window.new ≡ take span (drop count window.old)) }
 {
-    let mut k = 0;
-    while k < SPAN {
-        window[k] = window[count + k];
-        k += 1;
-    }
+    window.copy_within(count..count + SPAN, 0);
 }
 
 // What is owed from one place on is paid.
@@ -68,10 +62,8 @@ fn pay(window: &Window, tail: &mut Tail, place: usize)
     ensures { (length tail.new ≡ span)
         × (tail.new ≡ xor_front (drop place (take span window.now)) tail.old) }
 {
-    let mut k = 0;
-    while k < SPAN - place {
+    for k in 0..SPAN - place {
         tail[k] = window[place + k] ^ tail[k];
-        k += 1;
     }
 }
 
@@ -123,12 +115,7 @@ fn last(bytes: &[u8], tail: &mut Tail)
     ensures { (length tail.new ≡ span)
         × (tail.new ≡ drop (length bytes.now - span) bytes.now) }
 {
-    let at = bytes.len() - SPAN;
-    let mut k = 0;
-    while k < SPAN {
-        tail[k] = bytes[at + k];
-        k += 1;
-    }
+    tail.copy_from_slice(&bytes[bytes.len() - SPAN..]);
 }
 
 // All that is owed is paid.
