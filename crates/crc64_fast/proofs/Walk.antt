@@ -25,23 +25,6 @@ use Rattle.crc64_fast.proofs.Stretch.{after}
 use Rattle.crc64_fast.proofs.Turn.{start}
 use lib.Bits.{bit_xor}
 
--- one byte more of a word, and what is left of it
-pub low_more : (w i left : ℕ) (xs now : List ℕ) → left ≡ w / 256 ^ i → now ≡ over (bytes_of i w) xs → i < length xs → set now i (left % 256) ≡ over (bytes_of (i + 1) w) xs
-unfolding bytes_of
-low_more w i left xs now rest so_far h =
-    ap₂ (λ (z : List ℕ) (v : ℕ). set z i (v % 256)) so_far rest
-    ∙ over_store (bytes_of i w) xs i (w / 256 ^ i % 256) 0 (length_bytes_of i w) h
-    ∙ ap (λ (ws : List ℕ). over ws xs) (sym (bytes_of_split i 1 w))
-
-pub low_length : (w i : ℕ) (xs now : List ℕ) → now ≡ over (bytes_of i w) xs → i ≤ length xs → length now ≡ length xs
-low_length w i xs now e h = ap length e ∙ length_over (bytes_of i w) xs (rw (length_bytes_of i w) h)
-
-pub low_left : (w i left : ℕ) → left ≡ w / 256 ^ i → left / 256 ≡ w / 256 ^ (i + 1)
-low_left w i left e =
-    ap (λ (v : ℕ). v / 256) e
-    ∙ div-div-eq-div-mul w (256 ^ i) 256
-    ∙ ap (λ (v : ℕ). w / v) (mul_comm (256 ^ i) 256 ∙ sym (pow-succ' 256 i) ∙ ap (λ (k : ℕ). 256 ^ k) (sym (add-one i)))
-
 -- the first stretch, of one byte and `more`: `start` speaks of it alone, and what follows it is folded behind
 module _ (s : List ℕ) (more : ℕ) (hs : Bytes s) (few : more < 8) (there : more + 1 ≤ length s) {w : ℕ} (known : w ≡ word 8 (take (more + 1) s) 0) where
   first_length : length (take (more + 1) s) ≡ more + 1

@@ -1,6 +1,8 @@
 -- What std takes for the bytes of a word is what stands on the wire. Assumes nothing.
 use mathlib.Core.Path.{◌≡◌, refl, sym, ◌∙◌, ap}
-use Prim.Native.Nat.{ℕ, zero, suc, ◌/◌, ◌%◌, ◌^◌}
+use Prim.Native.Nat.{ℕ, zero, suc, ◌/◌, ◌%◌, ◌^◌, ◌≤◌}
+use native.Mathlib.Omega.{arith}
+use lib.ListN.{take}
 use native.Mathlib.Nat.{div-one, div-div-eq-div-mul, mul_comm, pow-succ'}
 use Rattle.std.specs.Int.{w16, w32, w64, to_le_bytes, bytes_low_first, byte_at}
 use Rattle.words.specs.Word.{bytes_of}
@@ -27,3 +29,10 @@ four n = bytes_are 4 n
 
 pub eight : (n : ℕ) → to_le_bytes w64 n ≡ bytes_of 8 n
 eight n = bytes_are 8 n
+
+-- the first bytes of a word are its lowest
+pub take_bytes_of : (j k n : ℕ) → j ≤ k → take j (bytes_of k n) ≡ bytes_of j n
+unfolding bytes_of
+take_bytes_of zero k n h = refl
+take_bytes_of (suc j) zero n h = absurd (omega arith)
+take_bytes_of (suc j) (suc k) n h = rw (take_bytes_of j k (n / 256) (omega arith))

@@ -1,8 +1,8 @@
 -- `copy_held` meets its contract. The loop's invariant: whole words are left; what is still to come, from the register that 64
 -- steps of x make beside what is kept, gives what all gives from the first; and what is to be copied so far is copied. The measure
 -- is what is left of the length. Assumes nothing.
-use mathlib.Core.Bool.{Bool, true, false}
-use mathlib.Core.Path.{◌≡◌, sym, ◌∙◌}
+use mathlib.Core.Bool.{Bool, false}
+use mathlib.Core.Path.{◌≡◌, ◌∙◌}
 use mathlib.Core.List.{List}
 use Prim.Native.Nat.{ℕ, ◌+◌, ◌-◌, ◌%◌, ◌^◌, ◌≤◌, ◌<◌}
 use native.Mathlib.Nat.{mod-lt, le_trans}

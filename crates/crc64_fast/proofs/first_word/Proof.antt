@@ -1,6 +1,5 @@
 -- `first_word` meets its contract: all that is there read, or the stretch alone read and put. Assumes nothing.
 use mathlib.Core.Path.{refl, sym}
-use native.Mathlib.Omega.{arith}
 use lib.Seq.{length-take-le}
 use borrow.Author.Rules.{rules}
 use Rattle.crc64_fast.proofs.Walk.{only_read, also_put}

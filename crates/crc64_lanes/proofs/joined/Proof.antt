@@ -8,9 +8,6 @@ use Rattle.crc64_lanes.proofs.Held.{ended, one_length, two_length, three_laid, t
 use borrow.Author.Rules.{rules}
 use Rattle.crc64_lanes.proofs.joined.Statement.{statement}
 use Rattle.crc64_lanes.proofs.joined.Tie as tie
-use Rattle.crc64_fast.proofs.fold_held.Reads as fold-held-reads
-use Rattle.word_read.proofs.read_u64.Reads as read-u64-reads
-use Rattle.word_write.proofs.write_u64.Reads as write-u64-reads
 
 within : (n : ℕ) {m : ℕ} → m ≡ 24 → n ≤ 24 → n ≤ m
 within n e h = omega arith
