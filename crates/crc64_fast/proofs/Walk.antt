@@ -4,18 +4,17 @@ use mathlib.Core.Path.{◌≡◌, refl, sym, ap, ap₂, ◌∙◌, subst}
 use mathlib.Core.Bool.{Bool, true, false, true≢false}
 use mathlib.Core.List.{List, [], ◌∷◌, ◌++◌}
 use Prim.Native.Nat.{ℕ, ◌+◌, ◌-◌, ◌*◌, ◌/◌, ◌%◌, ◌^◌, ◌≤◌, ◌<◌}
-use native.Mathlib.Nat.{suc-ne-zero, add-zero, mul-zero, mul_comm, pow-succ', div-div-eq-div-mul}
-use native.Mathlib.Numerals.{add-one}
+use native.Mathlib.Nat.{suc-ne-zero, add-zero, mul-zero}
 use native.Mathlib.Omega.{arith}
-use lib.ListN.{length, set, take, drop, take-append-drop, drop_of_length-le}
+use lib.ListN.{length, take, drop, take-append-drop, drop_of_length-le}
 use lib.Seq.{drop-drop, drop_at, length-take-le, take_all}
 use borrow.Rule.Slice.PartMut.{mid_of, put_mid}
 use Rattle.words.specs.Word.{word, bytes_of, Bytes}
 use Rattle.words.specs.Decide.{pick}
 use Rattle.words.specs.Buffer.{over, fitted}
 use Rattle.words.specs.Stages.{Filling}
-use Rattle.words.proofs.WordLaws.{word_split, word_past, bytes_of_word, bytes_of_split, length_bytes_of}
-use Rattle.words.proofs.BufferLaws.{over_store, fitted_fits, fitted_short, length_over}
+use Rattle.words.proofs.WordLaws.{word_split, word_past, bytes_of_word, length_bytes_of}
+use Rattle.words.proofs.BufferLaws.{fitted_fits, fitted_short, length_over}
 use Rattle.words.proofs.FillingLaws.{word_step, ends, place, length_now}
 use Rattle.crc64.specs.Polynomial.{fold}
 use Rattle.crc64.specs.Table.{swapped}
@@ -24,6 +23,9 @@ use Rattle.crc64.proofs.Burst.{bytes_take}
 use Rattle.crc64_fast.proofs.Stretch.{after}
 use Rattle.crc64_fast.proofs.Turn.{start}
 use lib.Bits.{bit_xor}
+
+pub low_length : (w i : ℕ) (xs now : List ℕ) → now ≡ over (bytes_of i w) xs → i ≤ length xs → length now ≡ length xs
+low_length w i xs now e h = ap length e ∙ length_over (bytes_of i w) xs (rw (length_bytes_of i w) h)
 
 -- the first stretch, of one byte and `more`: `start` speaks of it alone, and what follows it is folded behind
 module _ (s : List ℕ) (more : ℕ) (hs : Bytes s) (few : more < 8) (there : more + 1 ≤ length s) {w : ℕ} (known : w ≡ word 8 (take (more + 1) s) 0) where
