@@ -11,13 +11,10 @@ use error_tree::table::ATTRIBUTE_ENTRY;
 pub(crate) fn is_sorted(attributes: &[u64]) -> bool
     ensures { TellsSorted attributes.now result }
 {
-    let rows = attributes.len() / ATTRIBUTE_ENTRY;
-    let mut k = 1;
-    while k < rows {
+    for k in 1..attributes.len() / ATTRIBUTE_ENTRY {
         if attributes[ATTRIBUTE_ENTRY * k] < attributes[ATTRIBUTE_ENTRY * (k - 1)] {
             return false;
         }
-        k += 1;
     }
     true
 }

@@ -10,20 +10,13 @@ ghost use Rattle.error_write.specs.Stages.{Puts, Covers, row_bytes};
 
 use super::rows::{first_row, is_sorted, row_before};
 use super::size::{
-    Measured, SUMS, add_capped, attribute_size, delimited_size, entries_size, own_size,
-    size_checked,
+    SUMS, add_capped, attribute_size, delimited_size, entries_size, own_size, size_checked,
 };
 use error_tree::refusal::ErrorRefusal;
 use error_tree::table::{ATTRIBUTE_ENTRY, ERROR_ENTRY};
 use varint::write::{varint_size, write_varint};
 use word_write::write_bytes;
 use words::outcome::{NoRoom, Room};
-
-#[derive(Clone, Copy)]
-pub enum Encoded {
-    Written(usize),
-    Refused(ErrorRefusal),
-}
 
 // A tag, and the varint behind it.
 fn put_lead(out: &mut [u8], tag: u8, n: u64) -> usize
@@ -106,10 +99,8 @@ fn put_entries(
         out.old out.new result }
 {
     let mut at = 0;
-    let mut k = from;
-    while k < till {
+    for k in from..till {
         at += put_row(&mut out[at..], area, errors, attributes, i, k);
-        k += 1;
     }
     at
 }
@@ -254,23 +245,24 @@ fn write_errors(out: &mut [u8], area: &[u8], errors: &[u64], attributes: &[u64],
     put_own(out, area, errors, attributes, 0, from, till, entries);
 }
 
-// Writes the tables as a TError; a refusal leaves the output as it was.
-pub fn encode_error(area: &[u8], errors: &[u64], attributes: &[u64], out: &mut [u8]) -> Encoded
+// Writes the tables as a TError and says how many bytes it has; a refusal leaves the output as it was.
+pub fn encode_error(
+    area: &[u8],
+    errors: &[u64],
+    attributes: &[u64],
+    out: &mut [u8],
+) -> Result<usize, ErrorRefusal>
     ensures { Encodes area.now errors.now attributes.now out.old result
         out.new }
 {
-    match size_checked(area, errors, attributes) {
-        Measured::Refused(refusal) => Encoded::Refused(refusal),
-        Measured::Size(count) => {
-            if (out.len() as u64) < count {
-                return Encoded::Refused(ErrorRefusal::NoRoom(NoRoom {
-                    room: Room::Output,
-                    needed: count,
-                    given: out.len() as u64,
-                }));
-            }
-            write_errors(out, area, errors, attributes, count as usize);
-            Encoded::Written(count as usize)
-        }
+    let count = size_checked(area, errors, attributes)?;
+    if (out.len() as u64) < count {
+        return Err(ErrorRefusal::NoRoom(NoRoom {
+            room: Room::Output,
+            needed: count,
+            given: out.len() as u64,
+        }));
     }
+    write_errors(out, area, errors, attributes, count as usize);
+    Ok(count as usize)
 }

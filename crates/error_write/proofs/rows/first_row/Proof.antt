@@ -1,6 +1,6 @@
 -- `rows::first_row` meets its contract. Assumes nothing.
 use Prim.Native.Nat.{◌+◌}
-use Rattle.error_write.proofs.RowLaws.{AtLeast, least_begin, least_on, run_found, run_all, runs_unsorted, pending_within, not_true, not_false}
+use Rattle.error_write.proofs.RowLaws.{AtLeast, least_begin, least_on, run_found, run_all, runs_unsorted, pending_within}
 use native.Mathlib.Omega.{arith}
 use Rattle.error_write.proofs.rows.first_row.Statement.{statement}
 use Rattle.error_write.proofs.rows.first_row.Tie as tie

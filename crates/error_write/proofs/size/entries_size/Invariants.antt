@@ -1,0 +1,6 @@
+-- What the loop keeps. Assumes nothing.
+use Rattle.error_write.proofs.SizeLaws.{Adding}
+use Rattle.error_write.proofs.size.entries_size.Given as goal
+
+abbrev pub invariant-loop-k : goal.invariant-loop-k
+invariant-loop-k l = Adding l.attributes l.i l.from l.till l.k l.size

@@ -1,0 +1,6 @@
+-- What the loop keeps. Assumes nothing.
+use Rattle.error_write.proofs.PutLaws.{Putting}
+use Rattle.error_write.proofs.write.put_entries.Given as goal
+
+abbrev pub invariant-loop-k : goal.invariant-loop-k
+invariant-loop-k l = Putting l.area l.attributes l.i l.from l.till l.initial.out l.out l.at l.k
