@@ -84,6 +84,10 @@ module _ (size errors : ℕ) (attributes : List ℕ) (k : ℕ) where
     unfolding bad_attribute
     value_outside b e h r out = rw (lt-ltb (index_in attributes k) errors low, ← e, h) out
 
+-- where there is none
+pub found_none : (n found : ℕ) → FindsFirst n found None → n ≤ found
+found_none n found none = let e : found ≡ n = none in omega arith
+
 -- A search for the first entry that fails a test, n of them; those before i pass it
 module _ (test : ℕ → Bool) (n : ℕ) where
   abbrev pub Seeking : ℕ → Type 0
@@ -127,26 +131,21 @@ module _ (area errors attributes : List ℕ) where
         error_bad bad is rest =
             rw (eq-eqb (length errors % error_entry) 0 whole, eq-eqb (length attributes % attribute_entry) 0 whole', ne_eqb (errors_in errors) 0 some, ← is.0, lt-ltb bad (errors_in errors) is.1)
 
-        module _ (good : FindsFirst (errors_in errors) (first_bad_error (length area) errors) None) where
-          good_order : errors_in errors ≤ first_bad_error (length area) errors
-          good_order = let e : first_bad_error (length area) errors ≡ errors_in errors = good in omega arith
-
+        module _ (good : errors_in errors ≤ first_bad_error (length area) errors) where
           pub attribute_bad : (bad : ℕ) → FindsFirst (attributes_in attributes) (first_bad_attribute (length area) (errors_in errors) attributes) (Some bad) → ChecksTables area errors attributes (Err (BadTable 3 bad))
           unfolding table_order
           attribute_bad bad is rest =
-              rw (eq-eqb (length errors % error_entry) 0 whole, eq-eqb (length attributes % attribute_entry) 0 whole', ne_eqb (errors_in errors) 0 some, le-ltb (first_bad_error (length area) errors) (errors_in errors) good_order, ← is.0, lt-ltb bad (attributes_in attributes) is.1)
+              rw (eq-eqb (length errors % error_entry) 0 whole, eq-eqb (length attributes % attribute_entry) 0 whole', ne_eqb (errors_in errors) 0 some, le-ltb (first_bad_error (length area) errors) (errors_in errors) good, ← is.0, lt-ltb bad (attributes_in attributes) is.1)
 
-          pub tables_pass : FindsFirst (attributes_in attributes) (first_bad_attribute (length area) (errors_in errors) attributes) None → ChecksTables area errors attributes (Ok tt)
+          pub tables_pass : attributes_in attributes ≤ first_bad_attribute (length area) (errors_in errors) attributes → ChecksTables area errors attributes (Ok tt)
           unfolding table_order first_bad_error first_bad_attribute
-          tables_pass none =
-              let bad : first (bad_error (length area) errors) (errors_in errors) ≡ errors_in errors = good in
-              let worse : first (bad_attribute (length area) (errors_in errors) attributes) (attributes_in attributes) ≡ attributes_in attributes = none in (
-                record {
-                  whole_errors = omega arith;
-                  whole_attributes = omega arith;
-                  some = omega arith;
-                  good_error = λ i below. first_none (bad_error (length area) errors) 0 (errors_in errors) i (omega arith) (omega arith);
-                  good_attribute = λ k below. first_none (bad_attribute (length area) (errors_in errors) attributes) 0 (attributes_in attributes) k (omega arith) (omega arith);
-                },
-                λ rest. rw (eq-eqb (length errors % error_entry) 0 whole, eq-eqb (length attributes % attribute_entry) 0 whole', ne_eqb (errors_in errors) 0 some, le-ltb (first (bad_error (length area) errors) (errors_in errors)) (errors_in errors) (omega arith), le-ltb (first (bad_attribute (length area) (errors_in errors) attributes) (attributes_in attributes)) (attributes_in attributes) (omega arith)),
-              )
+          tables_pass good' = (
+            record {
+              whole_errors = omega arith;
+              whole_attributes = omega arith;
+              some = omega arith;
+              good_error = λ i below. first_none (bad_error (length area) errors) 0 (errors_in errors) i (omega arith) (omega arith);
+              good_attribute = λ k below. first_none (bad_attribute (length area) (errors_in errors) attributes) 0 (attributes_in attributes) k (omega arith) (omega arith);
+            },
+            λ rest. rw (eq-eqb (length errors % error_entry) 0 whole, eq-eqb (length attributes % attribute_entry) 0 whole', ne_eqb (errors_in errors) 0 some, le-ltb (first (bad_error (length area) errors) (errors_in errors)) (errors_in errors) good, le-ltb (first (bad_attribute (length area) (errors_in errors) attributes) (attributes_in attributes)) (attributes_in attributes) good'),
+          )
