@@ -27,12 +27,10 @@ pub(crate) fn first_row(attributes: &[u64], sorted: bool, i: usize, till: usize)
     if !sorted {
         return 0;
     }
-    let mut from = till;
-    while 0 < from {
-        if attributes[ATTRIBUTE_ENTRY * (from - 1)] < (i as u64) {
-            return from;
+    for k in (0..till).rev() {
+        if attributes[ATTRIBUTE_ENTRY * k] < (i as u64) {
+            return k + 1;
         }
-        from -= 1;
     }
     0
 }

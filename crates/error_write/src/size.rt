@@ -99,9 +99,7 @@ fn measure(area: &[u8], errors: &[u64], attributes: &[u64]) -> u64
     let sorted = is_sorted(attributes);
     let mut till = attributes.len() / ATTRIBUTE_ENTRY;
     let mut sums: [u64; SUMS] = [0; SUMS];
-    let mut i = errors.len() / ERROR_ENTRY;
-    while 1 < i {
-        i -= 1;
+    for i in (1..errors.len() / ERROR_ENTRY).rev() {
         let from = first_row(attributes, sorted, i, till);
         let own = own_size(errors, i, entries_size(attributes, i, from, till));
         till = row_before(sorted, from, till);

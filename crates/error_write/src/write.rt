@@ -213,10 +213,8 @@ fn write_errors(out: &mut [u8], area: &[u8], errors: &[u64], attributes: &[u64],
     let sorted = is_sorted(attributes);
     let mut till = attributes.len() / ATTRIBUTE_ENTRY;
     let mut sums: [u64; SUMS] = [0; SUMS];
-    let mut i = errors.len() / ERROR_ENTRY;
     let mut at = total;
-    while 1 < i {
-        i -= 1;
+    for i in (1..errors.len() / ERROR_ENTRY).rev() {
         let from = first_row(attributes, sorted, i, till);
         let entries = entries_size(attributes, i, from, till);
         let own = own_size(errors, i, entries);
