@@ -1,4 +1,4 @@
--- What the loop keeps. Assumes nothing.
+-- The sizes of the rows passed. Assumes nothing.
 use Rattle.error_write.proofs.SizeLaws.{Adding}
 use Rattle.error_write.proofs.size.entries_size.Given as goal
 

@@ -100,13 +100,13 @@ loop-i-preserved c =
 pub first_row-from-requires-2 : goal.first_row-from-requires-2
 first_row-from-requires-2 c = root_pending c.requires.0 c.loop-i.invariant.measuring c.loop-i-test.false
 
-pub entries_size-entries-requires-2 : goal.entries_size-entries-requires-2
-entries_size-entries-requires-2 c = c.first_row-from-2.ensures.0
+pub entries_size-requires : goal.entries_size-requires
+entries_size-requires c = c.first_row-from-2.ensures.0
 
 pub put_own-requires : goal.put_own-requires
 put_own-requires c =
     let loop-test = c.loop-i-test in
-    (c.requires.0, c.requires.0.some, c.first_row-from-2.ensures.0, root_entries c.requires.0 c.args.total c.args.out.now c.requires.1 c.requires.2 (omega (arith, c.well_formed)) c.loop-i.invariant loop-test.false c.entries_size-entries-2.ensures, root_room c.requires.0 c.args.total c.args.out.now c.requires.1 c.requires.2 (omega (arith, c.well_formed)) c.loop-i.invariant loop-test.false)
+    (c.requires.0, c.requires.0.some, c.first_row-from-2.ensures.0, root_entries c.requires.0 c.args.total c.args.out.now c.requires.1 c.requires.2 (omega (arith, c.well_formed)) c.loop-i.invariant loop-test.false c.entries_size.ensures, root_room c.requires.0 c.args.total c.args.out.now c.requires.1 c.requires.2 (omega (arith, c.well_formed)) c.loop-i.invariant loop-test.false)
 
 pub returns : goal.returns
 returns c =
