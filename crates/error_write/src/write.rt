@@ -140,13 +140,7 @@ fn put_dictionary(
 }
 
 // An error without its inner errors.
-fn put_own(
-    out: &mut [u8],
-    area: &[u8],
-    errors: &[u64],
-    attributes: &[u64],
-    entry: Entry,
-) -> usize
+fn put_own(out: &mut [u8], area: &[u8], errors: &[u64], attributes: &[u64], entry: Entry) -> usize
     requires { Sound area.now errors.now attributes.now × (entry.number < errors_in errors.now)
         × Covers attributes.now entry.number entry.from entry.till
         × (entry.size

@@ -1,7 +1,7 @@
 -- The contract, case by case. Assumes nothing.
 use Prim.Native.Nat.{◌+◌, ◌-◌}
 use mathlib.Core.Path.{◌≡◌}
-use Rattle.error_write.proofs.RowLaws.{AtLeast, least_begin, least_on, run_found, run_all, runs_unsorted, pending_within}
+use Rattle.error_write.proofs.RowLaws.{least_begin, least_on, run_found, run_all, runs_unsorted, pending_within}
 use native.Mathlib.Omega.{arith}
 use Rattle.error_write.proofs.rows.first_row.Goals as goal
 

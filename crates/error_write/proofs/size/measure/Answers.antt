@@ -1,7 +1,6 @@
 -- The contract, case by case. Assumes nothing.
-use borrow.Author.Rules.{rules}
 use native.Mathlib.Omega.{arith}
-use Rattle.error_write.proofs.MeasureLaws.{Measuring, measuring_begin, entry_pending, entry_fits, depth_fits, sums_long, measuring_on, root_pending, root_fits, root_long, measured}
+use Rattle.error_write.proofs.MeasureLaws.{measuring_begin, entry_pending, entry_fits, depth_fits, sums_long, measuring_on, root_pending, root_fits, root_long, measured}
 use Rattle.error_write.proofs.size.measure.Goals as goal
 
 pub loop-i-init : goal.loop-i-init

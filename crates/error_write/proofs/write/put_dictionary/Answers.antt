@@ -2,7 +2,6 @@
 use Rattle.error_write.specs.Written.{lead, all_rows, entries_bytes, dictionary_bytes}
 use native.Mathlib.Omega.{arith}
 use Rattle.error_write.proofs.PutLaws.{first_room, next_place, next_room, next_fits, next_put, dictionary_none_put, dictionary_is}
-use borrow.Author.Rules.{rules}
 use Rattle.error_write.proofs.write.put_dictionary.Goals as goal
 
 pub returns-then-entry-eq0 : goal.returns-then-entry-eq0

@@ -4,7 +4,6 @@ use mathlib.Core.List.{◌++◌}
 use mathlib.Core.Path.{refl}
 use native.Mathlib.Omega.{arith}
 use Rattle.error_write.proofs.PutLaws.{first_room, next_place, next_room, next_fits, next_put}
-use borrow.Author.Rules.{rules}
 use Rattle.error_write.proofs.write.put_inner.Goals as goal
 
 pub put_lead-at-requires : goal.put_lead-at-requires

@@ -2,7 +2,6 @@
 use Rattle.error_table.proofs.SoundLaws.{text_inside}
 use native.Mathlib.Omega.{arith}
 use Rattle.error_write.proofs.PutLaws.{code_room, text_place, text_room_lem, text_fits, dictionary_place, dictionary_room, own_fits, own_put}
-use borrow.Author.Rules.{rules}
 use Rattle.error_write.proofs.write.put_own.Goals as goal
 
 pub put_lead-code-requires : goal.put_lead-code-requires

@@ -1,7 +1,6 @@
 -- The contract, case by case. Assumes nothing.
-use borrow.Author.Rules.{rules}
 use native.Mathlib.Omega.{arith}
-use Rattle.error_write.proofs.WriteLaws.{Going, going, entries_right, head_fits, head_place, head_room, going_on, root_entries, root_room, gone}
+use Rattle.error_write.proofs.WriteLaws.{going, entries_right, head_fits, head_place, head_room, going_on, root_entries, root_room, gone}
 use Rattle.error_write.proofs.MeasureLaws.{entry_pending, entry_fits, depth_fits, sums_long, root_pending}
 use Rattle.error_write.proofs.write.write_errors.Goals as goal
 
