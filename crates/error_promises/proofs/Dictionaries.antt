@@ -189,7 +189,7 @@ module _ (s : List ℕ) where
       ap (of_error (suc i)) (append-nil (seen_rows s 0 1 (parts levels s all))) ∙ subst (λ (x : ℕ). of_error x (seen_rows s 0 1 (parts levels s all)) ≡ dictionaries_of x s (get_or (messages_with (messages_in levels s) s all) i [])) place (held_added.theirs 0 1 i (omega arith) (omega arith))
 
 pub dictionaries_add_up : DictionariesAddUp
-dictionaries_add_up s table rows table' rows' n m decodes =
-    let told = read_told s table rows table' rows' n m decodes in
-    let same : n ≡ length (messages s) = told.0 ∙ tree_count s in
+dictionaries_add_up s table rows table' rows' c decodes =
+    let told = read_told s table rows table' rows' c decodes in
+    let same : c.errors ≡ length (messages s) = told.0 ∙ tree_count s in
     (same, λ i below. ap (of_error i) told.3 ∙ tree_rows s i (omega arith))

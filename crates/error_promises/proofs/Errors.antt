@@ -18,7 +18,8 @@ use Rattle.error_tree.specs.Reading.{error_entry, attribute_entry, room_order, r
 use Rattle.error_tree.specs.declared.refusal.ErrorRefusal.TheVariants.{BadMessage, ErrorsTooDeep, BadTable, NoRoom}
 use Rattle.error_read.specs.Paper.{decoded_paper}
 use Rattle.error_read.specs.Statement.{Decodes}
-use Rattle.error_read.specs.declared.decode.Decoded.TheVariants.{Read}
+use Rattle.error_walk.specs.declared.walk.Counted.{Counted}
+use Rattle.std.specs.declared.result.Result.TheVariants.{Ok}
 use Rattle.error_read.proofs.Unique.{decoded_told}
 use Rattle.error_promises.specs.Form.{WellFormed}
 use Rattle.error_promises.specs.Errors.{Roomy, ErrorAcceptsExactly, ErrorTablesKeep, ErrorOutputKeeps, LastCounts, LastIsStored, UnknownAddsNothing}
@@ -61,11 +62,11 @@ module _ (s errors attributes : List ℕ) where
 
 pub error_accepts_exactly : ErrorAcceptsExactly
 error_accepts_exactly s errors attributes errors' attributes' r decodes = (
-  (λ form fit. decoded_told r (Read (error_count (tree s)) (attribute_count (tree s))) (decodes.0 ∙ reads s errors attributes form fit)),
-  (λ n m e.
-      let back : reading s (length errors) (length attributes) ≡ accepted 0 (n ∷ m ∷ []) = sym decodes.0 ∙ ap decoded_paper e in
-      let all : WellFormed s × Roomy s errors attributes × (accepted 0 (error_count (tree s) ∷ attribute_count (tree s) ∷ []) ≡ accepted 0 (n ∷ m ∷ [])) = reads_only s errors attributes 0 (n ∷ m ∷ []) back in
-      let same : accepted 0 (error_count (tree s) ∷ attribute_count (tree s) ∷ []) ≡ accepted 0 (n ∷ m ∷ []) = all.2 in
+  (λ form fit. decoded_told r (Ok record { errors = error_count (tree s); attributes = attribute_count (tree s) }) (decodes.0 ∙ reads s errors attributes form fit)),
+  (λ c e.
+      let back : reading s (length errors) (length attributes) ≡ accepted 0 (c.errors ∷ c.attributes ∷ []) = sym decodes.0 ∙ ap decoded_paper e in
+      let all : WellFormed s × Roomy s errors attributes × (accepted 0 (error_count (tree s) ∷ attribute_count (tree s) ∷ []) ≡ accepted 0 (c.errors ∷ c.attributes ∷ [])) = reads_only s errors attributes 0 (c.errors ∷ c.attributes ∷ []) back in
+      let same : accepted 0 (error_count (tree s) ∷ attribute_count (tree s) ∷ []) ≡ accepted 0 (c.errors ∷ c.attributes ∷ []) = all.2 in
       (all.0, all.1, cc, cc)),
 )
 
@@ -100,16 +101,16 @@ last_counts f number s [] gs at d is none =
 last_counts f number s (x ∷ fs) gs at d is none = last_counts f number s fs gs at _ is none
 
 -- the first entry of a table that errors were read into
-first_entry : (s errors attributes errors' attributes' : List ℕ) (n m : ℕ) → Decodes s errors attributes (Read n m) errors' attributes'
+first_entry : (s errors attributes errors' attributes' : List ℕ) (c : Counted) → Decodes s errors attributes (Ok c) errors' attributes'
     → (get_or errors' 0 0 ≡ code_of s (outermost s)) × (get_or errors' 2 0 ≡ place_of 2 s (outermost s)) × (get_or errors' 3 0 ≡ length_of 2 s (outermost s))
 unfolding error_words tree
-first_entry s errors attributes errors' attributes' n m decodes =
+first_entry s errors attributes errors' attributes' c decodes =
     let all : errors' ≡ over (error_words 1 (tree s)) errors = rw (← decodes.0) at decodes.1 in
     (ap (λ (t : List ℕ). get_or t 0 0) all, ap (λ (t : List ℕ). get_or t 2 0) all, ap (λ (t : List ℕ). get_or t 3 0) all)
 
 pub last_is_stored : LastIsStored
-last_is_stored s errors attributes errors' attributes' n m decodes fs gs at split none =
-    let first = first_entry s errors attributes errors' attributes' n m decodes in
+last_is_stored s errors attributes errors' attributes' c decodes fs gs at split none =
+    let first = first_entry s errors attributes errors' attributes' c decodes in
     let last : (f : ℕ → ℕ) (number : ℕ) → number_at s at ≡ number → latest f number s (outermost s) 0 ≡ f at =
     λ (f : ℕ → ℕ) (number : ℕ) (is : number_at s at ≡ number). ap (λ (t : List ℕ). latest f number s t 0) split
     ∙ last_counts f number s fs gs at 0 is (λ g m e. none g m (e ∙ sym is)) in (

@@ -71,7 +71,7 @@ module _ (s t : List ℕ) where
         copy_between inner-known Inside Same (stop_at s a) (stop_at t b) (omega (arith, lies'.2, lies'.3)) same_at held (content_at t b) n (omega (arith, lies.1)) (omega (arith, lies.1)) (inside_agrees n (omega (arith, lies.1)))
 
   part_same : (end end' a b : ℕ) → whole_in attribute_fields s a end ≡ true → Copied s t a b end' → Agrees s t a b (stop_at s a - a) → Anything a → SamePart s t a b
-  part_same end end' a b whole copied agrees inside low = same_bytes attribute_fields a b end end' whole copied agrees (sym (type_bytes attribute_fields (number_at s a) low (λ e. omega arith)))
+  part_same end end' a b whole copied agrees inside low = same_bytes attribute_fields a b end end' whole copied agrees (type_bytes attribute_fields (number_at s a) low (λ e. omega arith)).0
 
   entry_same : (end end' a b : ℕ) → whole_in dictionary_fields s a end ≡ true → Copied s t a b end' → Agrees s t a b (stop_at s a - a) → Entry s a → SameEntry s t a b
   entry_same end end' a b whole copied agrees inside one = held_same dictionary_fields a b end end' whole copied agrees attribute_fields Anything (SamePart s t) (part_same (stop_at s a) (stop_at t b)) (inside one)
@@ -79,7 +79,7 @@ module _ (s t : List ℕ) where
   own_same : (end end' a b : ℕ) → whole_in error_fields s a end ≡ true → Copied s t a b end' → Agrees s t a b (stop_at s a - a) → (number_at s a ≡ 3 → Held dictionary_fields (Entry s) s a) → SameOwn s t a b
   own_same end end' a b whole copied agrees inside = (
     (λ one. sym copied.value_same),
-    (λ two. same_bytes error_fields a b end end' whole copied agrees (sym (type_other error_fields (number_at s a) (omega arith) refl (λ e. omega arith)))),
+    (λ two. same_bytes error_fields a b end end' whole copied agrees (type_other error_fields (number_at s a) (omega arith) refl (λ e. omega arith)).0),
     (λ three. held_same error_fields a b end end' whole copied agrees dictionary_fields (Entry s) (SameEntry s t) (entry_same (stop_at s a) (stop_at t b)) (inside three)),
   )
 

@@ -18,18 +18,18 @@ use Rattle.words.proofs.DecideLaws.{le_or_gt, silent_decides}
 use Rattle.error_tree.specs.Message.{error_fields, fields}
 use Rattle.error_tree.specs.Tree.{levels, parts, tree, error_count, attribute_count, code_of, place_of, length_of}
 use Rattle.error_tree.specs.Reading.{error_entry, attribute_entry}
-use Rattle.error_table.specs.Table.{errors_in, attributes_in, depth_in, table_order, first_bad_error, first_bad_attribute}
+use Rattle.error_table.specs.Table.{errors_in, attributes_in, depth_in, table_order}
 use Rattle.error_table.specs.Statement.{Sound}
 use Rattle.error_table.proofs.TableLaws.{tables_pass}
 use Rattle.error_table.proofs.SoundLaws.{depth_good, depth_first, index_below}
-use Rattle.error_read.specs.declared.decode.Decoded.{Decoded}
-use Rattle.error_read.specs.declared.decode.Decoded.TheVariants.{Read}
+use Rattle.error_tree.specs.declared.refusal.ErrorRefusal.{ErrorRefusal}
+use Rattle.error_walk.specs.declared.walk.Counted.{Counted}
+use Rattle.std.specs.declared.result.Result.{Result}
+use Rattle.std.specs.declared.result.Result.TheVariants.{Ok}
 use Rattle.error_read.specs.Statement.{Decodes}
 use Rattle.error_write.specs.Written.{inners_bytes, error_bytes}
 use Rattle.error_write.specs.Writing.{most_bytes, capped, needed, writing}
-use Rattle.error_write.specs.Paper.{encoded_paper}
-use Rattle.error_write.specs.declared.write.Encoded.{Encoded}
-use Rattle.error_write.specs.declared.write.Encoded.TheVariants.{Written}
+use Rattle.error_write.specs.Paper.{bytes_paper}
 use Rattle.error_write.proofs.Unique.{encode_error_unique}
 use Rattle.error_write.proofs.CappedLaws.{capped_small, capped_large}
 use Rattle.error_promises.specs.Form.{WellFormed}
@@ -46,7 +46,7 @@ silent_sound area errors attributes quiet =
     let a : length errors % error_entry ≡ 0 = eqb-true (length errors % error_entry) 0 (not-false _ quiet.0) in
     let b : length attributes % attribute_entry ≡ 0 = eqb-true (length attributes % attribute_entry) 0 (not-false _ quiet.1.0) in
     let c : errors_in errors ≡ 0 → ⊥ = eqb-false (errors_in errors) 0 quiet.1.1.0 in
-    (tables_pass area errors attributes a b c (first_bad_error (length area) errors) refl (ltb-false _ _ quiet.1.1.1.0) (first_bad_attribute (length area) (errors_in errors) attributes) refl (ltb-false _ _ quiet.1.1.1.1.0)).0
+    (tables_pass area errors attributes a b c (ltb-false _ _ quiet.1.1.1.0) (ltb-false _ _ quiet.1.1.1.1.0)).0
 
 -- The whole of what was written
 module _ {area errors attributes : List ℕ} (sound : Sound area errors attributes) (s : List ℕ) (short : length s ≤ most_bytes) (is : s ≡ error_bytes area errors attributes) where
@@ -103,15 +103,15 @@ module _ {area errors attributes : List ℕ} (sound : Sound area errors attribut
   written_form = outermost.form
 
   -- and what is read of it
-  module _ (table rows table' rows' : List ℕ) (r : Decoded) (errors_fit : errors_in errors ≤ errors_in table) (rows_fit : attributes_in attributes ≤ attributes_in rows) (decodes : Decodes s table rows r table' rows') where
+  module _ (table rows table' rows' : List ℕ) (r : Result Counted ErrorRefusal) (errors_fit : errors_in errors ≤ errors_in table) (rows_fit : attributes_in attributes ≤ attributes_in rows) (decodes : Decodes s table rows r table' rows') where
     roomy : Roomy s table rows
     roomy = record { errors_fit = rw errors_back errors_fit; attributes_fit = rw rows_back rows_fit }
 
-    pub read_is : r ≡ Read (errors_in errors) (attributes_in attributes)
-    read_is = (error_accepts_exactly s table rows table' rows' r decodes).0 written_form roomy ∙ (λ k. Read (errors_back k) (rows_back k))
+    pub read_is : r ≡ Ok record { errors = errors_in errors; attributes = attributes_in attributes }
+    read_is = (error_accepts_exactly s table rows table' rows' r decodes).0 written_form roomy ∙ (λ k. Ok record { errors = errors_back k; attributes = rows_back k })
 
     told : (errors_in errors ≡ error_count (tree s)) × (attributes_in attributes ≡ attribute_count (tree s)) × (errors_over s table' (errors_in errors) ≡ seen_errors s 1 (tree s)) × (rows_over s rows' (attributes_in attributes) ≡ seen_rows s 0 0 (tree s))
-    told = read_told s table rows table' rows' (errors_in errors) (attributes_in attributes) (subst (λ (a : Decoded). Decodes s table rows a table' rows') read_is decodes)
+    told = read_told s table rows table' rows' record { errors = errors_in errors; attributes = attributes_in attributes } (subst (λ (a : Result Counted ErrorRefusal). Decodes s table rows a table' rows') read_is decodes)
 
     pub read_errors : errors_over s table' (errors_in errors) ≡ errors_over area errors (errors_in errors)
     read_errors = told.2 ∙ errors_told
@@ -140,8 +140,8 @@ error_writes_exactly area errors attributes out out' r encodes = (
   (λ quiet fits.
       let size : ℕ = needed area errors attributes in
       let taken : accepted size [] ≡ writing area errors attributes (length out) = sym (silent_decides (table_order area errors attributes) _ quiet ∙ rw (le-ltb (length out) size fits)) in
-      ap (λ (p : Encoded × List ℕ). p.0) (encode_error_unique area errors attributes out (r, out') (Written size, afterwards (writing area errors attributes (length out)) (error_bytes area errors attributes) out) encodes (taken, refl))),
-  (λ n e. writes_only area errors attributes (length out) n (sym (ap encoded_paper e) ∙ encodes.0)),
+      ap (λ (p : Result ℕ ErrorRefusal × List ℕ). p.0) (encode_error_unique area errors attributes out (r, out') (Ok size, afterwards (writing area errors attributes (length out)) (error_bytes area errors attributes) out) encodes (taken, refl))),
+  (λ n e. writes_only area errors attributes (length out) n (sym (ap bytes_paper e) ∙ encodes.0)),
 )
 
 pub error_round_trip : ErrorRoundTrip

@@ -14,7 +14,8 @@ use Rattle.words.specs.Answer.{Answer, afterwards}
 use Rattle.words.specs.Buffer.{stretch, over}
 use Rattle.error_tree.specs.Tree.{Parts, none, attribute, inner, tree, error_count, attribute_count, error_words, attribute_words}
 use Rattle.error_read.specs.Statement.{Decodes}
-use Rattle.error_read.specs.declared.decode.Decoded.TheVariants.{Read}
+use Rattle.error_walk.specs.declared.walk.Counted.{Counted}
+use Rattle.std.specs.declared.result.Result.TheVariants.{Ok}
 use Rattle.error_read.proofs.TableLaws.{length_error_words, length_attribute_words}
 use Rattle.error_table.specs.Table.{index_in, key_in, key_length_in, value_in, value_length_in}
 use Rattle.error_write.specs.Written.{rows_of}
@@ -109,10 +110,10 @@ seen_rows_count s i next (inner code at n held more) =
     ∙ omega (arith, seen_rows_count s next (next + 1) held, seen_rows_count s i (next + 1 + error_count held) more)
 
 -- What was read, both tables told by the tree
-pub read_told : (s table rows table' rows' : List ℕ) (n m : ℕ) → Decodes s table rows (Read n m) table' rows'
-    → (n ≡ error_count (tree s)) × (m ≡ attribute_count (tree s)) × (errors_over s table' n ≡ seen_errors s 1 (tree s)) × (rows_over s rows' m ≡ seen_rows s 0 0 (tree s))
-read_told s table rows table' rows' n m decodes =
-    let exact = (error_accepts_exactly s table rows table' rows' (Read n m) decodes).1 n m refl in
+pub read_told : (s table rows table' rows' : List ℕ) (c : Counted) → Decodes s table rows (Ok c) table' rows'
+    → (c.errors ≡ error_count (tree s)) × (c.attributes ≡ attribute_count (tree s)) × (errors_over s table' c.errors ≡ seen_errors s 1 (tree s)) × (rows_over s rows' c.attributes ≡ seen_rows s 0 0 (tree s))
+read_told s table rows table' rows' c decodes =
+    let exact = (error_accepts_exactly s table rows table' rows' (Ok c) decodes).1 c refl in
     let errors-after : table' ≡ over (error_words 1 (tree s)) table = decodes.1 ∙ ap (λ (a : Answer). afterwards a (error_words 1 (tree s)) table) (sym decodes.0) in
     let rows-after : rows' ≡ over (attribute_words 0 0 (tree s)) rows = decodes.2 ∙ ap (λ (a : Answer). afterwards a (attribute_words 0 0 (tree s)) rows) (sym decodes.0) in (
       exact.2,

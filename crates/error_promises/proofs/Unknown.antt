@@ -1,7 +1,7 @@
 -- A message with unknown fields put between reads alike. Assumes nothing.
 use mathlib.Core.Path.{◌≡◌, refl, sym, ◌∙◌, ap, subst}
 use mathlib.Core.List.{List, ◌∷◌, ◌++◌}
-use Prim.Native.Nat.{ℕ, zero, suc, ◌+◌, ◌-◌, ◌%◌, ◌<◌, ◌≤◌}
+use Prim.Native.Nat.{ℕ, zero, suc, ◌+◌, ◌%◌, ◌<◌, ◌≤◌}
 use native.Mathlib.Omega.{arith}
 use native.Mathlib.Decide.{ℕ_discrete}
 use borrow.Author.Tests.{eq-eqb, ne_eqb}
@@ -13,8 +13,10 @@ use Rattle.error_tree.specs.Message.{error_fields, dictionary_fields, attribute_
 use Rattle.error_tree.specs.Tree.{Parts, none, attribute, inner, attribute_of, dictionary, field_parts, parts_with, error_of, inner_part, parts, levels, tree, error_count, attribute_count}
 use Rattle.error_tree.proofs.MessageLaws.{fields_more, fields_end}
 use Rattle.error_read.specs.Statement.{Decodes}
-use Rattle.error_read.specs.declared.decode.Decoded.{Decoded}
-use Rattle.error_read.specs.declared.decode.Decoded.TheVariants.{Read}
+use Rattle.error_tree.specs.declared.refusal.ErrorRefusal.{ErrorRefusal}
+use Rattle.error_walk.specs.declared.walk.Counted.{Counted}
+use Rattle.std.specs.declared.result.Result.{Result}
+use Rattle.std.specs.declared.result.Result.TheVariants.{Ok}
 use Rattle.error_promises.specs.Form.{Message, reached, field, Held, Anything, Entry, ErrorField, WellFormed}
 use Rattle.error_promises.specs.Errors.{Roomy}
 use Rattle.error_promises.specs.Round.{error, row}
@@ -201,12 +203,12 @@ module _ (s t : List ℕ) where
   tree_told d = error_told levels (inner_told levels) (length s) (length t) d told_none
 
 pub unknown_fields_skipped : UnknownFieldsSkipped
-unknown_fields_skipped s t d table rows table' rows' n m decodes other others other' others' r errors_fit rows_fit decodes' =
-    let first = read_told s table rows table' rows' n m decodes in
+unknown_fields_skipped s t d table rows table' rows' c decodes other others other' others' r errors_fit rows_fit decodes' =
+    let first = read_told s table rows table' rows' c decodes in
     let told : Told s t (tree s) (tree t) = tree_told s t d in
-    let count : error_count (tree t) ≡ n = sym (first.0 ∙ told.counted) in
-    let size : attribute_count (tree t) ≡ m = sym (first.1 ∙ sym (seen_rows_count s 0 0 (tree s)) ∙ ap length (told.rows_same 0 0) ∙ seen_rows_count t 0 0 (tree t)) in
+    let count : error_count (tree t) ≡ c.errors = sym (first.0 ∙ told.counted) in
+    let size : attribute_count (tree t) ≡ c.attributes = sym (first.1 ∙ sym (seen_rows_count s 0 0 (tree s)) ∙ ap length (told.rows_same 0 0) ∙ seen_rows_count t 0 0 (tree t)) in
     let roomy : Roomy t other others = record { errors_fit = rw count errors_fit; attributes_fit = rw size rows_fit } in
-    let is : r ≡ Read n m = (error_accepts_exactly t other others other' others' r decodes').0 (other_form s t d) roomy ∙ (λ k. Read (count k) (size k)) in
-    let second = read_told t other others other' others' n m (subst (λ (a : Decoded). Decodes t other others a other' others') is decodes') in
+    let is : r ≡ Ok c = (error_accepts_exactly t other others other' others' r decodes').0 (other_form s t d) roomy ∙ (λ k. Ok record { errors = count k; attributes = size k }) in
+    let second = read_told t other others other' others' c (subst (λ (a : Result Counted ErrorRefusal). Decodes t other others a other' others') is decodes') in
     (is, second.2 ∙ sym (told.errors_same 1) ∙ sym first.2, second.3 ∙ sym (told.rows_same 0 0) ∙ sym first.3)

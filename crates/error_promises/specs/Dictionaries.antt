@@ -1,13 +1,13 @@
 -- Which attributes an error has: those of all dictionaries among its fields, in wire order. Document 02, A10:
 -- "repeated dictionaries add up". Assumes nothing.
-use Rattle.std.specs.Prelude.{ℕ, zero, suc, ◌<◌, ◌≡◌, List, [], ◌∷◌, ◌++◌, length, get_or}
+use Rattle.std.specs.Prelude.{ℕ, zero, suc, ◌<◌, ◌≡◌, List, [], ◌∷◌, ◌++◌, length, get_or, Ok}
 use Rattle.words.specs.Buffer.{stretch}
 use Rattle.words.specs.Decide.{pick, ◌=?◌}
 use Rattle.field.specs.Field.{number_at}
 use Rattle.error_tree.specs.Message.{error_fields, dictionary_fields, attribute_fields, fields, inside}
 use Rattle.error_tree.specs.Tree.{levels, place_of, length_of}
 use Rattle.error_read.specs.Statement.{Decodes}
-use Rattle.error_read.specs.declared.decode.Decoded.TheVariants.{Read}
+use Rattle.error_walk.specs.declared.walk.Counted.{Counted}
 use Rattle.error_promises.specs.Round.{Row, row, rows_over, of_error}
 
 -- the attribute of so many fields, as one of the error number i
@@ -51,6 +51,6 @@ messages s =
 -- the rows of each error that was read are the attributes of all its dictionaries
 abbrev pub DictionariesAddUp : Type 0
 DictionariesAddUp =
-    (s table rows table' rows' : List ℕ) (n m : ℕ) → Decodes s table rows (Read n m) table' rows'
-    → (n ≡ length (messages s))
-    × ((i : ℕ) → i < n → of_error i (rows_over s rows' m) ≡ dictionaries_of i s (get_or (messages s) i []))
+    (s table rows table' rows' : List ℕ) (c : Counted) → Decodes s table rows (Ok c) table' rows'
+    → (c.errors ≡ length (messages s))
+    × ((i : ℕ) → i < c.errors → of_error i (rows_over s rows' c.attributes) ≡ dictionaries_of i s (get_or (messages s) i []))

@@ -1,16 +1,15 @@
 -- Writing errors and reading them back. Document 02, A10: "reading its output gives the errors back, each with its
 -- attributes in order, offsets apart". An entry of a table without its offsets is what it says: the bytes in the
 -- place of where they stand. Assumes nothing.
-use Rattle.std.specs.Prelude.{ℕ, zero, suc, ◌+◌, ◌≤◌, ◌<◌, ◌≡◌, List, [], ◌∷◌, ◌++◌, length, take}
+use Rattle.std.specs.Prelude.{ℕ, zero, suc, ◌+◌, ◌≤◌, ◌<◌, ◌≡◌, List, [], ◌∷◌, ◌++◌, length, take, Result, Ok}
 use Rattle.words.specs.Buffer.{stretch}
 use Rattle.words.specs.Decide.{pick, ◌=?◌}
 use Rattle.error_table.specs.Table.{errors_in, code_in, depth_in, text_in, text_length_in, attributes_in, index_in, key_in, key_length_in, value_in, value_length_in}
 use Rattle.error_read.specs.Statement.{Decodes}
-use Rattle.error_read.specs.declared.decode.Decoded.{Decoded}
-use Rattle.error_read.specs.declared.decode.Decoded.TheVariants.{Read}
+use Rattle.error_tree.specs.declared.refusal.ErrorRefusal.{ErrorRefusal}
+use Rattle.error_walk.specs.declared.walk.Counted.{Counted}
 use Rattle.error_write.specs.Writing.{most_bytes}
 use Rattle.error_write.specs.Statement.{Encodes}
-use Rattle.error_write.specs.declared.write.Encoded.TheVariants.{Written}
 
 -- an error: its code, its depth, how long its text is and the bytes of it
 pub data Error : Type 0 where
@@ -62,11 +61,11 @@ by_error (suc n) i rows = of_error i rows ++ by_error n (i + 1) rows
 abbrev pub ErrorRoundTrip : Type 0
 ErrorRoundTrip =
     (area errors attributes out out' : List ℕ) (count : ℕ) → length out < most_bytes
-    → Encodes area errors attributes out (Written count) out'
-    → (table rows table' rows' : List ℕ) (r : Decoded)
+    → Encodes area errors attributes out (Ok count) out'
+    → (table rows table' rows' : List ℕ) (r : Result Counted ErrorRefusal)
     → errors_in errors ≤ errors_in table → attributes_in attributes ≤ attributes_in rows
     → Decodes (take count out') table rows r table' rows'
-    → (r ≡ Read (errors_in errors) (attributes_in attributes))
+    → (r ≡ Ok record { errors = errors_in errors; attributes = attributes_in attributes })
     × (errors_over (take count out') table' (errors_in errors) ≡ errors_over area errors (errors_in errors))
     × (rows_over (take count out') rows' (attributes_in attributes)
     ≡ by_error (errors_in errors) 0 (rows_over area attributes (attributes_in attributes)))

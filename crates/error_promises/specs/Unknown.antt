@@ -1,15 +1,15 @@
 -- Fields that a message does not know are skipped (document 02, A10): a message with unknown fields put between reads
 -- alike, offsets apart. What "put between" means is said field by field, over two inputs, for an error, its
 -- dictionaries, their attributes and its inner errors. Assumes nothing.
-use Rattle.std.specs.Prelude.{ℕ, zero, suc, ◌<◌, ◌≤◌, ◌≡◌, true, List, ◌++◌, length}
+use Rattle.std.specs.Prelude.{ℕ, zero, suc, ◌<◌, ◌≤◌, ◌≡◌, true, List, ◌++◌, length, Result, Ok}
 use Rattle.words.specs.Buffer.{stretch}
 use Rattle.field.specs.Field.{number_at, value_at, content_at, stop_at}
 use Rattle.error_tree.specs.Message.{error_fields, dictionary_fields, attribute_fields, whole_in}
 use Rattle.error_tree.specs.Tree.{levels}
 use Rattle.error_table.specs.Table.{errors_in, attributes_in}
 use Rattle.error_read.specs.Statement.{Decodes}
-use Rattle.error_read.specs.declared.decode.Decoded.{Decoded}
-use Rattle.error_read.specs.declared.decode.Decoded.TheVariants.{Read}
+use Rattle.error_tree.specs.declared.refusal.ErrorRefusal.{ErrorRefusal}
+use Rattle.error_walk.specs.declared.walk.Counted.{Counted}
 use Rattle.error_promises.specs.Form.{WellFormed}
 use Rattle.error_promises.specs.Round.{errors_over, rows_over}
 
@@ -63,10 +63,11 @@ PutBetween s t = Between error_fields (SameField levels s t) s (length s) t (len
 abbrev pub UnknownFieldsSkipped : Type 0
 UnknownFieldsSkipped =
     (s t : List ℕ) → PutBetween s t
-    → (table rows table' rows' : List ℕ) (n m : ℕ) → Decodes s table rows (Read n m) table' rows'
-    → (other others other' others' : List ℕ) (r : Decoded) → n ≤ errors_in other → m ≤ attributes_in others
-    → Decodes t other others r other' others'
-    → (r ≡ Read n m) × (errors_over t other' n ≡ errors_over s table' n) × (rows_over t others' m ≡ rows_over s rows' m)
+    → (table rows table' rows' : List ℕ) (c : Counted) → Decodes s table rows (Ok c) table' rows'
+    → (other others other' others' : List ℕ) (r : Result Counted ErrorRefusal) → c.errors ≤ errors_in other
+    → c.attributes ≤ attributes_in others → Decodes t other others r other' others'
+    → (r ≡ Ok c) × (errors_over t other' c.errors ≡ errors_over s table' c.errors)
+    × (rows_over t others' c.attributes ≡ rows_over s rows' c.attributes)
 
 -- The same of bytes, in the outermost error: the bytes of one unknown field put where a field begins or the input
 -- ends. (What results is well formed, so that more can be put.)

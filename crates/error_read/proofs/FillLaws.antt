@@ -1,8 +1,7 @@
 -- Laws of the second walk. Assumes nothing.
 use mathlib.Core.Path.{◌≡◌, refl, sym, ◌∙◌, ap}
-use mathlib.Core.Bool.{false}
 use mathlib.Core.List.{List, [], ◌∷◌, ◌++◌}
-use Prim.Native.Nat.{ℕ, suc, ◌+◌, ◌-◌, ◌<◌, ◌≤◌}
+use Prim.Native.Nat.{ℕ, suc, ◌+◌, ◌<◌, ◌≤◌}
 use native.Mathlib.Nat.{add-zero}
 use native.Mathlib.Omega.{arith}
 use borrow.Author.Tests.{eq-eqb, ne_eqb}
@@ -11,8 +10,8 @@ use lib.Seq.{sets, length-sets}
 use Rattle.words.specs.Decide.{pick, ◌=?◌}
 use Rattle.field.specs.Field.{number_at, value_at, content_at}
 use Rattle.field.specs.declared.field.Field.{Field}
-use Rattle.field.specs.declared.field.Field.TheVariants.{Whole, Broken}
-use Rattle.error_tree.specs.Message.{dictionary_fields, whole_in, fields, latest}
+use Rattle.std.specs.declared.option.Option.TheVariants.{Some, None}
+use Rattle.error_tree.specs.Message.{dictionary_fields, fields, latest}
 use Rattle.error_tree.specs.Tree.{attribute_words, place_of, length_of}
 use Rattle.error_tree.specs.Statement.{ReadsKnown, Lies}
 use Rattle.error_read.specs.Stages.{Scanned, entry_words, dictionary_words, Stored}
@@ -21,46 +20,43 @@ use Rattle.error_tree.proofs.MessageLaws.{fields_more, fields_none, fields_end}
 use Rattle.error_read.proofs.TableLaws.{sets_append}
 use Rattle.error_tree.specs.Reading.{attribute_entry}
 
--- What a field is, and what is left of a message behind it
-module _ (known : ℕ) (s : List ℕ) (at end : ℕ) (r : Field) (reads : ReadsKnown known s at end r) where
-  pub none_left : r ≡ Broken → fields known s at end ≡ []
-  none_left q = let cut : whole_in known s at end ≡ false = rw q at reads in fields_none known s end at cut
+-- What is left of a message
+pub none_left : (known : ℕ) (s : List ℕ) (at end : ℕ) → ReadsKnown known s at end None → fields known s at end ≡ []
+none_left known s at end cut = fields_none known s end at cut
 
-  module _ (number type value content stop : ℕ) (q : r ≡ Whole number type value content stop) where
-    read_whole : ReadsKnown known s at end (Whole number type value content stop)
-    read_whole = rw q at reads
+-- and behind a field
+module _ (known : ℕ) (s : List ℕ) (at end : ℕ) (f : Field) (whole : ReadsKnown known s at end (Some f)) where
+  pub one_left : fields known s at end ≡ at ∷ fields known s f.stop end
+  one_left = fields_more known s end at whole.0 ∙ ap (λ (k : ℕ). at ∷ fields known s k end) (sym whole.5)
 
-    pub one_left : fields known s at end ≡ at ∷ fields known s stop end
-    one_left = fields_more known s end at read_whole.0 ∙ ap (λ (k : ℕ). at ∷ fields known s k end) (sym read_whole.5)
+  pub step : (at < f.stop) × (f.stop ≤ end)
+  step =
+      let low : at < f.content = whole.6 in
+      let high : f.content ≤ f.stop = whole.7 in
+      (omega arith, whole.8)
 
-    pub step : (at < stop) × (stop ≤ end)
-    step =
-        let low : at < content = read_whole.6 in
-        let high : content ≤ stop = read_whole.7 in
-        (omega arith, read_whole.8)
+  pub field_lies : end ≤ length s → Lies s at f
+  field_lies h = (whole.1, whole.4, whole.5, whole.6, whole.7, (let far : f.stop ≤ end = whole.8 in omega arith))
 
-    pub field_lies : end ≤ length s → Lies s at number content stop
-    field_lies h = (read_whole.1, read_whole.4, read_whole.5, read_whole.6, read_whole.7, (let far : stop ≤ end = read_whole.8 in omega arith))
-
-    -- the last of a number: this one where it has that number
-    latest_on : (f : ℕ → ℕ) (n d v : ℕ) → v ≡ f at → (d' : ℕ) → d' ≡ pick (number =? n) v d → latest f n s (fields known s stop end) d' ≡ latest f n s (fields known s at end) d
-    unfolding latest
-    latest_on f n d v is d' e = rw (one_left, e, read_whole.1, is)
+  -- the last of a number: this one where it has that number
+  latest_on : (g : ℕ → ℕ) (n d v : ℕ) → v ≡ g at → (d' : ℕ) → d' ≡ pick (f.number =? n) v d → latest g n s (fields known s f.stop end) d' ≡ latest g n s (fields known s at end) d
+  unfolding latest
+  latest_on g n d v is d' e = rw (one_left, e, whole.1, is)
 
 -- the scan: what is still to come says the last of each
 module _ (known : ℕ) (s : List ℕ) (start end : ℕ) where
-  pub record Scanning (at v1 p1 v2 p2 : ℕ) : Type 0 where
+  pub record Scanning (at : ℕ) (own : Own) : Type 0 where
     pub to : at ≤ end
-    pub v1_left : latest (value_at s) 1 s (fields known s at end) v1 ≡ length_of 1 s (fields known s start end)
-    pub p1_left : latest (content_at s) 1 s (fields known s at end) p1 ≡ place_of 1 s (fields known s start end)
-    pub v2_left : latest (value_at s) 2 s (fields known s at end) v2 ≡ length_of 2 s (fields known s start end)
-    pub p2_left : latest (content_at s) 2 s (fields known s at end) p2 ≡ place_of 2 s (fields known s start end)
+    pub v1_left : latest (value_at s) 1 s (fields known s at end) own.value1 ≡ length_of 1 s (fields known s start end)
+    pub p1_left : latest (content_at s) 1 s (fields known s at end) own.place1 ≡ place_of 1 s (fields known s start end)
+    pub v2_left : latest (value_at s) 2 s (fields known s at end) own.value2 ≡ length_of 2 s (fields known s start end)
+    pub p2_left : latest (content_at s) 2 s (fields known s at end) own.place2 ≡ place_of 2 s (fields known s start end)
 
-  pub scanning : start ≤ end → Scanning start 0 0 0 0
+  pub scanning : start ≤ end → Scanning start record { value1 = 0; place1 = 0; value2 = 0; place2 = 0 }
   scanning h = record { to = h; v1_left = refl; p1_left = refl; v2_left = refl; p2_left = refl }
 
-module _ {known : ℕ} {s : List ℕ} {start end at v1 p1 v2 p2 : ℕ} (left : Scanning known s start end at v1 p1 v2 p2) where
-  pub scanned : fields known s at end ≡ [] → Scanned s (fields known s start end) record { value1 = v1; place1 = p1; value2 = v2; place2 = p2 }
+module _ {known : ℕ} {s : List ℕ} {start end at : ℕ} {own : Own} (left : Scanning known s start end at own) where
+  pub scanned : fields known s at end ≡ [] → Scanned s (fields known s start end) own
   unfolding latest
   scanned e =
       record {
@@ -70,20 +66,20 @@ module _ {known : ℕ} {s : List ℕ} {start end at v1 p1 v2 p2 : ℕ} (left : S
         place2 = rw e at left.p2_left;
       }
 
-  pub scanned_end : end ≤ at → Scanned s (fields known s start end) record { value1 = v1; place1 = p1; value2 = v2; place2 = p2 }
+  pub scanned_end : end ≤ at → Scanned s (fields known s start end) own
   scanned_end h = scanned (fields_end known s end at h)
 
-  pub scans : (r : Field) (reads : ReadsKnown known s at end r) (number type value content stop : ℕ) (q : r ≡ Whole number type value content stop) (v1' p1' v2' p2' : ℕ)
-      → v1' ≡ pick (number =? 1) value v1 → p1' ≡ pick (number =? 1) content p1 → v2' ≡ pick (number =? 2) value v2 → p2' ≡ pick (number =? 2) content p2
-      → Scanning known s start end stop v1' p1' v2' p2'
-  scans r reads number type value content stop q v1' p1' v2' p2' a b c d =
-      let all : ReadsKnown known s at end (Whole number type value content stop) = rw q at reads in
+  pub scans : (f : Field) (whole : ReadsKnown known s at end (Some f)) (own' : Own)
+      → own'.value1 ≡ pick (f.number =? 1) f.value own.value1 → own'.place1 ≡ pick (f.number =? 1) f.content own.place1
+      → own'.value2 ≡ pick (f.number =? 2) f.value own.value2 → own'.place2 ≡ pick (f.number =? 2) f.content own.place2
+      → Scanning known s start end f.stop own'
+  scans f whole own' a b c d =
       record {
-        to = all.8;
-        v1_left = latest_on known s at end r reads number type value content stop q (value_at s) 1 v1 value all.3 v1' a ∙ left.v1_left;
-        p1_left = latest_on known s at end r reads number type value content stop q (content_at s) 1 p1 content all.4 p1' b ∙ left.p1_left;
-        v2_left = latest_on known s at end r reads number type value content stop q (value_at s) 2 v2 value all.3 v2' c ∙ left.v2_left;
-        p2_left = latest_on known s at end r reads number type value content stop q (content_at s) 2 p2 content all.4 p2' d ∙ left.p2_left;
+        to = whole.8;
+        v1_left = latest_on known s at end f whole (value_at s) 1 own.value1 f.value whole.3 own'.value1 a ∙ left.v1_left;
+        p1_left = latest_on known s at end f whole (content_at s) 1 own.place1 f.content whole.4 own'.place1 b ∙ left.p1_left;
+        v2_left = latest_on known s at end f whole (value_at s) 2 own.value2 f.value whole.3 own'.value2 c ∙ left.v2_left;
+        p2_left = latest_on known s at end f whole (content_at s) 2 own.place2 f.content whole.4 own'.place2 d ∙ left.p2_left;
       }
 
 pub chosen : (number wanted new old : ℕ) → number ≡ wanted → new ≡ pick (number =? wanted) new old
@@ -122,16 +118,16 @@ module _ {xs now : List ℕ} {first k : ℕ} {all left : List ℕ} (t : Storing 
       }
 
 -- a dictionary's field
-module _ (s : List ℕ) (at number content stop : ℕ) (lies : Lies s at number content stop) (i k : ℕ) (xs : List ℕ) where
-  pub entry_skips : (number ≡ 1 → ⊥) → Stored (entry_words i s at) xs k xs k
+module _ (s : List ℕ) (at : ℕ) (f : Field) (lies : Lies s at f) (i k : ℕ) (xs : List ℕ) where
+  pub entry_skips : (f.number ≡ 1 → ⊥) → Stored (entry_words i s at) xs k xs k
   entry_skips h = rw (ne_eqb (number_at s at) 1 (λ e. h (lies.0 ∙ e))) (refl, sym (add-zero k))
 
-  module _ (one : number ≡ 1) where
+  module _ (one : f.number ≡ 1) where
     pub entry_room : k + length (entry_words i s at) ≤ length xs → k + attribute_entry ≤ length xs
     unfolding attribute_words
     entry_room h = rw (eq-eqb (number_at s at) 1 (sym lies.0 ∙ one)) at h
 
-    pub entry_stored : (own : Own) → Scanned s (fields 2 s content stop) own
+    pub entry_stored : (own : Own) → Scanned s (fields 2 s f.content f.stop) own
         → Stored (entry_words i s at) xs k (set (set (set (set (set xs k i) (k + 1) own.place1) (k + 2) own.value1) (k + 3) own.place2) (k + 4) own.value2) (k + attribute_entry)
     unfolding attribute_words
     entry_stored own scan =

@@ -14,6 +14,7 @@ use Rattle.error_tree.specs.Statement.{Lies}
 use Rattle.error_read.specs.Stages.{Scanned, dictionary_words, Stored, Fills, FillsAll, Room}
 use Rattle.error_read.specs.declared.fill.Own.{Own}
 use Rattle.error_read.specs.declared.fill.Filled.{Filled}
+use Rattle.field.specs.declared.field.Field.{Field}
 use Rattle.error_tree.proofs.TreeLaws.{dictionary_errors, tree_errors, tree_attributes}
 use Rattle.error_read.proofs.TableLaws.{sets_append, length_error_words, length_attribute_words, dictionary_error_words, dictionary_words_lem, field_error_words, field_words}
 use Rattle.error_read.proofs.FillLaws.{Storing, storing, stored_all, has_room, stored_on}
@@ -105,101 +106,101 @@ unfolding error_words attribute_words error_count attribute_count
 fills_none p e depth index next k errors attributes =
     rw e record { errors_are = refl; attributes_are = refl; next_is = sym (add-zero next); row_is = omega arith }
 
-module _ (s : List ℕ) (at number content stop : ℕ) (lies : Lies s at number content stop) (left : ℕ) where
-  field_none : (number ≡ 3 → ⊥) → (number ≡ 4 → ⊥) → field_parts (inner_part left s) s at none ≡ none
+module _ (s : List ℕ) (at : ℕ) (f : Field) (lies : Lies s at f) (left : ℕ) where
+  field_none : (f.number ≡ 3 → ⊥) → (f.number ≡ 4 → ⊥) → field_parts (inner_part left s) s at none ≡ none
   unfolding field_parts
   field_none three four = rw (ne_eqb (number_at s at) 3 (λ e. three (lies.0 ∙ e)), ne_eqb (number_at s at) 4 (λ e. four (lies.0 ∙ e)))
 
-  field_deep : number ≡ 4 → left ≡ 0 → field_parts (inner_part left s) s at none ≡ none
+  field_deep : f.number ≡ 4 → left ≡ 0 → field_parts (inner_part left s) s at none ≡ none
   unfolding field_parts inner_part
   field_deep four bottom = rw (sym lies.0 ∙ four, bottom)
 
-  field_dictionary : number ≡ 3 → field_parts (inner_part left s) s at none ≡ dictionary s (fields dictionary_fields s content stop) none
+  field_dictionary : f.number ≡ 3 → field_parts (inner_part left s) s at none ≡ dictionary s (fields dictionary_fields s f.content f.stop) none
   unfolding field_parts
   field_dictionary three = rw (sym lies.0 ∙ three, lies.1, lies.2)
 
   abbrev InnerIs : Type 0
   InnerIs =
-      let fs = fields error_fields s content stop in
+      let fs = fields error_fields s f.content f.stop in
       field_parts (inner_part left s) s at none ≡ inner (code_of s fs) (place_of 2 s fs) (length_of 2 s fs) (parts (left - 1) s fs) none
 
-  field_inner : number ≡ 4 → (left ≡ 0 → ⊥) → InnerIs
+  field_inner : f.number ≡ 4 → (left ≡ 0 → ⊥) → InnerIs
   unfolding field_parts inner_part
   field_inner four some =
       let one : left ≡ suc (left - 1) = omega arith in
       ap (λ (l : ℕ). field_parts (inner_part l s) s at none) one ∙ rw (sym lies.0 ∙ four, lies.1, lies.2)
 
   module _ (depth index next k : ℕ) (errors attributes : List ℕ) where
-    pub inside_skips : (number ≡ 3 → ⊥) → (number ≡ 4 → ⊥) → Fills (field_parts (inner_part left s) s at none) depth index next k errors attributes errors attributes record { next = next; row = k }
+    pub inside_skips : (f.number ≡ 3 → ⊥) → (f.number ≡ 4 → ⊥) → Fills (field_parts (inner_part left s) s at none) depth index next k errors attributes errors attributes record { next = next; row = k }
     inside_skips three four = fills_none _ (field_none three four) depth index next k errors attributes
 
-    pub inside_no_deeper : number ≡ 4 → left ≡ 0 → Fills (field_parts (inner_part left s) s at none) depth index next k errors attributes errors attributes record { next = next; row = k }
+    pub inside_no_deeper : f.number ≡ 4 → left ≡ 0 → Fills (field_parts (inner_part left s) s at none) depth index next k errors attributes errors attributes record { next = next; row = k }
     inside_no_deeper four bottom = fills_none _ (field_deep four bottom) depth index next k errors attributes
 
     module _ (room : Room (field_parts (inner_part left s) s at none) next k errors attributes) where
       -- a dictionary
-      module _ (three : number ≡ 3) where
+      module _ (three : f.number ≡ 3) where
         words : List ℕ
-        words = dictionary_words index s (fields dictionary_fields s content stop)
+        words = dictionary_words index s (fields dictionary_fields s f.content f.stop)
 
         words_are : attribute_words index next (field_parts (inner_part left s) s at none) ≡ words
         unfolding words attribute_words
-        words_are = ap (attribute_words index next) (field_dictionary three) ∙ dictionary_words_lem index next s (fields dictionary_fields s content stop) none ∙ append-nil words
+        words_are = ap (attribute_words index next) (field_dictionary three) ∙ dictionary_words_lem index next s (fields dictionary_fields s f.content f.stop) none ∙ append-nil words
 
         words_count : length words ≡ attribute_entry * attribute_count (field_parts (inner_part left s) s at none)
         words_count = ap length (sym words_are) ∙ length_attribute_words index next (field_parts (inner_part left s) s at none)
 
-        pub inside_words_fit : k + length (dictionary_words index s (fields dictionary_fields s content stop)) ≤ length attributes
+        pub inside_words_fit : k + length (dictionary_words index s (fields dictionary_fields s f.content f.stop)) ≤ length attributes
         unfolding words
         inside_words_fit =
             let fit : k + attribute_entry * attribute_count (field_parts (inner_part left s) s at none) ≤ length attributes = room.attributes_fit in
             omega (arith, words_count)
 
-        pub inside_stores : (attributes' : List ℕ) (row : ℕ) → Stored (dictionary_words index s (fields dictionary_fields s content stop)) attributes k attributes' row
+        pub inside_stores : (attributes' : List ℕ) (row : ℕ) → Stored (dictionary_words index s (fields dictionary_fields s f.content f.stop)) attributes k attributes' row
             → Fills (field_parts (inner_part left s) s at none) depth index next k errors attributes errors attributes' record { next = next; row = row }
         unfolding words error_words error_count
         inside_stores attributes' row st =
             record {
-              errors_are = rw (field_dictionary three, dictionary_error_words depth s (fields dictionary_fields s content stop) none);
+              errors_are = rw (field_dictionary three, dictionary_error_words depth s (fields dictionary_fields s f.content f.stop) none);
               attributes_are = st.0 ∙ ap (sets attributes k) (sym words_are);
-              next_is = rw (field_dictionary three, dictionary_errors s (fields dictionary_fields s content stop) none) (sym (add-zero next));
+              next_is = rw (field_dictionary three, dictionary_errors s (fields dictionary_fields s f.content f.stop) none) (sym (add-zero next));
               row_is = let there : row ≡ k + length words = st.1 in omega (arith, words_count);
             }
 
       -- an inner error
-      module _ (four : number ≡ 4) (some : left ≡ 0 → ⊥) where
+      module _ (four : f.number ≡ 4) (some : left ≡ 0 → ⊥) where
         fs : List ℕ
-        fs = fields error_fields s content stop
+        fs = fields error_fields s f.content f.stop
 
         pub inside_entry_fits : error_entry * (next + 1) ≤ length errors
         unfolding error_count
         inside_entry_fits =
             let fit : error_entry * (next + error_count (field_parts (inner_part left s) s at none)) ≤ length errors = room.errors_fit in
-            let fit' : error_entry * (next + (1 + error_count (parts (left - 1) s (fields error_fields s content stop)) + 0)) ≤ length errors = rw (field_inner four some) at fit in
+            let fit' : error_entry * (next + (1 + error_count (parts (left - 1) s (fields error_fields s f.content f.stop)) + 0)) ≤ length errors = rw (field_inner four some) at fit in
             omega arith
 
-        module _ (own : Own) (scan : Scanned s (fields error_fields s content stop) own) (errors₁ : List ℕ)
+        module _ (own : Own) (scan : Scanned s (fields error_fields s f.content f.stop) own) (errors₁ : List ℕ)
             (put : errors₁ ≡ sets errors (error_entry * next) (own.value1 % 0x1_0000_0000 ∷ depth ∷ own.place2 ∷ own.value2 ∷ [])) where
-          pub inside_room : Room (parts (left - 1) s (fields error_fields s content stop)) (next + 1) k errors₁ attributes
+          pub inside_room : Room (parts (left - 1) s (fields error_fields s f.content f.stop)) (next + 1) k errors₁ attributes
           unfolding error_count attribute_count
           inside_room =
-              let p : Parts = parts (left - 1) s (fields error_fields s content stop) in
+              let p : Parts = parts (left - 1) s (fields error_fields s f.content f.stop) in
               let fit : error_entry * (next + (1 + error_count p + 0)) ≤ length errors = rw (field_inner four some) at room.errors_fit in
               let fit' : k + attribute_entry * (attribute_count p + 0) ≤ length attributes = rw (field_inner four some) at room.attributes_fit in
               let same : length errors₁ ≡ length errors = ap length put ∙ length-sets errors (error_entry * next) (own.value1 % 0x1_0000_0000 ∷ depth ∷ own.place2 ∷ own.value2 ∷ []) in
               record { errors_fit = omega arith; attributes_fit = omega arith }
 
           pub inside_fills : (errors' attributes' : List ℕ) (r : Filled)
-              → Fills (parts (left - 1) s (fields error_fields s content stop)) (depth + 1) next (next + 1) k errors₁ attributes errors' attributes' r
+              → Fills (parts (left - 1) s (fields error_fields s f.content f.stop)) (depth + 1) next (next + 1) k errors₁ attributes errors' attributes' r
               → Fills (field_parts (inner_part left s) s at none) depth index next k errors attributes errors' attributes' r
           unfolding error_words attribute_words error_count attribute_count
           inside_fills errors' attributes' r fills =
-              let p : Parts = parts (left - 1) s (fields error_fields s content stop) in
+              let p : Parts = parts (left - 1) s (fields error_fields s f.content f.stop) in
               let head : List ℕ = own.value1 % 0x1_0000_0000 ∷ depth ∷ own.place2 ∷ own.value2 ∷ [] in
               let four-on : error_entry * (next + 1) ≡ error_entry * next + length head = omega arith in
               let next_is : r.next ≡ next + 1 + error_count p = fills.next_is in
               let row_is : r.row ≡ k + attribute_entry * attribute_count p = fills.row_is in
-              let gs : List ℕ = fields error_fields s content stop in
+              let gs : List ℕ = fields error_fields s f.content f.stop in
               let ws : List ℕ = error_words (depth + 1) p in
               let head-is : head ++ ws ≡ code_of s gs ∷ depth ∷ place_of 2 s gs ∷ length_of 2 s gs ∷ (ws ++ []) = rw (scan.value1, scan.place2, scan.value2, append-nil) in
               let joined : errors' ≡ sets errors (error_entry * next) (head ++ ws) =

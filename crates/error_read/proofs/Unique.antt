@@ -11,22 +11,27 @@ use Rattle.error_tree.proofs.Unique.{paper_back, paper_back_lem}
 use Rattle.error_tree.specs.declared.refusal.ErrorRefusal.TheVariants.{BadMessage, ErrorsTooDeep, BadTable, NoRoom}
 use Rattle.error_read.specs.Paper.{decoded_paper}
 use Rattle.error_read.specs.Statement.{Decodes}
-use Rattle.error_read.specs.declared.decode.Decoded.{Decoded}
-use Rattle.error_read.specs.declared.decode.Decoded.TheVariants.{Read, Refused}
+use Rattle.error_tree.specs.declared.refusal.ErrorRefusal.{ErrorRefusal}
+use Rattle.error_walk.specs.declared.walk.Counted.{Counted}
+use Rattle.std.specs.declared.result.Result.{Result}
+use Rattle.std.specs.declared.result.Result.TheVariants.{Ok, Err}
 
--- back from an answer to the enum's case
+abbrev Decoded : Type 0
+Decoded = Result Counted ErrorRefusal
+
+-- back from an answer to the result's case
 decoded_back : Answer → Decoded
-decoded_back (accepted count fields) = Read (get_or fields 0 0) (get_or fields 1 0)
-decoded_back more = Read 0 0
-decoded_back (refused number values consumed) = Refused (paper_back (refused number values consumed))
+decoded_back (accepted count fields) = Ok record { errors = get_or fields 0 0; attributes = get_or fields 1 0 }
+decoded_back more = Ok record { errors = 0; attributes = 0 }
+decoded_back (refused number values consumed) = Err (paper_back (refused number values consumed))
 
 decoded_back_lem : (r : Decoded) → decoded_back (decoded_paper r) ≡ r
 unfolding decoded_back
-decoded_back_lem (Read errors attributes) = refl
-decoded_back_lem (Refused (BadMessage place)) = refl
-decoded_back_lem (Refused (ErrorsTooDeep place)) = refl
-decoded_back_lem (Refused (BadTable rule position)) = refl
-decoded_back_lem (Refused (NoRoom short)) = ap Refused (paper_back_lem (NoRoom short))
+decoded_back_lem (Ok c) = refl
+decoded_back_lem (Err (BadMessage place)) = refl
+decoded_back_lem (Err (ErrorsTooDeep place)) = refl
+decoded_back_lem (Err (BadTable rule position)) = refl
+decoded_back_lem (Err (NoRoom short)) = ap Err (paper_back_lem (NoRoom short))
 
 -- two answers that mean the same are one
 pub decoded_told : (r r' : Decoded) → decoded_paper r ≡ decoded_paper r' → r ≡ r'

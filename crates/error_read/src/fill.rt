@@ -41,35 +41,23 @@ fn scan(input: &[u8], start: usize, end: usize, known: u64) -> Own
     ensures { Scanned input.now (fields known input.now start end) result }
 {
     let mut at = start;
-    let mut value1: u64 = 0;
-    let mut place1: u64 = 0;
-    let mut value2: u64 = 0;
-    let mut place2: u64 = 0;
+    let mut own = Own {
+        value1: 0,
+        place1: 0,
+        value2: 0,
+        place2: 0,
+    };
     while at < end {
-        match read_known(input, at, end, known) {
-            Field::Broken => {
-                return Own {
-                    value1,
-                    place1,
-                    value2,
-                    place2,
-                };
-            }
-            Field::Whole(number, _, value, content, stop) => {
-                value1 = choose(number, 1, value, value1);
-                place1 = choose(number, 1, content as u64, place1);
-                value2 = choose(number, 2, value, value2);
-                place2 = choose(number, 2, content as u64, place2);
-                at = stop;
-            }
-        }
+        let Some(field) = read_known(input, at, end, known) else {
+            return own;
+        };
+        own.value1 = choose(field.number, 1, field.value, own.value1);
+        own.place1 = choose(field.number, 1, field.content as u64, own.place1);
+        own.value2 = choose(field.number, 2, field.value, own.value2);
+        own.place2 = choose(field.number, 2, field.content as u64, own.place2);
+        at = field.stop;
     }
-    Own {
-        value1,
-        place1,
-        value2,
-        place2,
-    }
+    own
 }
 
 // The attribute of the error number `index` in a dictionary's field, to the word `k` of the table on. Answers which
@@ -77,21 +65,19 @@ fn scan(input: &[u8], start: usize, end: usize, known: u64) -> Own
 fn fill_entry(
     input: &[u8],
     at: usize,
-    number: u64,
-    content: usize,
-    stop: usize,
+    field: Field,
     index: usize,
     attributes: &mut [u64],
     k: usize,
 ) -> usize
-    requires { (Lies input.now at number content stop)
+    requires { (Lies input.now at field)
         × (k + length (entry_words index input.now at) ≤ length attributes.old) }
     ensures { Stored (entry_words index input.now at) attributes.old k attributes.new result }
 {
-    if number != 1 {
+    if field.number != 1 {
         return k;
     }
-    let own = scan(input, content, stop, ATTRIBUTE_FIELDS);
+    let own = scan(input, field.content, field.stop, ATTRIBUTE_FIELDS);
     attributes[k] = index as u64;
     attributes[k + 1] = own.place1;
     attributes[k + 2] = own.value1;
@@ -119,15 +105,11 @@ fn fill_dictionary(
     let mut at = start;
     let mut k = first;
     while at < end {
-        match read_known(input, at, end, DICTIONARY_FIELDS) {
-            Field::Broken => {
-                return k;
-            }
-            Field::Whole(number, _, _, content, stop) => {
-                k = fill_entry(input, at, number, content, stop, index, attributes, k);
-                at = stop;
-            }
-        }
+        let Some(field) = read_known(input, at, end, DICTIONARY_FIELDS) else {
+            return k;
+        };
+        k = fill_entry(input, at, field, index, attributes, k);
+        at = field.stop;
     }
     k
 }
@@ -145,61 +127,74 @@ fn put_error(errors: &mut [u64], next: usize, code: u64, depth: u64, place: u64,
     errors[k + 3] = size;
 }
 
-// What a field of the error number `index` holds, at `depth`; `left` levels are allowed below that error.
+// What a field of the error number `index` holds, at `depth`, to `first` on; `left` levels are allowed below that error.
 #[cycle(fill_held_fill_inside)]
 fn fill_inside(
     input: &[u8],
     at: usize,
-    number: u64,
-    content: usize,
-    stop: usize,
+    field: Field,
     left: u64,
     depth: u64,
     index: usize,
-    next: usize,
+    first: Filled,
     errors: &mut [u64],
-    k: usize,
     attributes: &mut [u64],
 ) -> Filled
-    requires { (Lies input.now at number content stop) × (depth + left ≤ 17)
-        × Room (field_parts (inner_part left input.now) input.now at none) next k errors.old attributes.old }
-    ensures { Fills (field_parts (inner_part left input.now) input.now at none) depth index next k
-        errors.old attributes.old errors.new attributes.new result }
+    requires { (Lies input.now at field) × (depth + left ≤ 17)
+        × Room (field_parts (inner_part left input.now) input.now at none) first.next first.row errors.old
+        attributes.old }
+    ensures { Fills (field_parts (inner_part left input.now) input.now at none) depth index first.next
+        first.row errors.old attributes.old errors.new attributes.new result }
 {
-    if number == 3 {
-        let row = fill_dictionary(input, content, stop, index, attributes, k);
-        return Filled { next, row };
-    }
-    if number == 4 {
-        if left == 0 {
-            return Filled { next, row: k };
+    match field.number {
+        3 => {
+            let row = fill_dictionary(
+                input,
+                field.content,
+                field.stop,
+                index,
+                attributes,
+                first.row,
+            );
+            Filled {
+                next: first.next,
+                row,
+            }
         }
-        let own = scan(input, content, stop, ERROR_FIELDS);
-        put_error(
-            errors,
-            next,
-            own.value1 % 0x1_0000_0000,
-            depth,
-            own.place2,
-            own.value2,
-        );
-        return fill_held(
-            input,
-            content,
-            stop,
-            left - 1,
-            depth + 1,
-            next,
-            next + 1,
-            errors,
-            k,
-            attributes,
-        );
+        4 => {
+            if left == 0 {
+                return first;
+            }
+            let own = scan(input, field.content, field.stop, ERROR_FIELDS);
+            put_error(
+                errors,
+                first.next,
+                own.value1 % 0x1_0000_0000,
+                depth,
+                own.place2,
+                own.value2,
+            );
+            let held = Filled {
+                next: first.next + 1,
+                row: first.row,
+            };
+            fill_held(
+                input,
+                field.content,
+                field.stop,
+                left - 1,
+                depth + 1,
+                first.next,
+                held,
+                errors,
+                attributes,
+            )
+        }
+        _ => first,
     }
-    Filled { next, row: k }
 }
 
-// What the error number `index` holds, its inner errors being at `depth`.
+// What the error number `index` holds, its inner errors being at `depth`, to `first` on.
 #[cycle(fill_held_fill_inside)]
 fn fill_held(
     input: &[u8],
@@ -208,37 +203,28 @@ fn fill_held(
     left: u64,
     depth: u64,
     index: usize,
-    first: usize,
+    first: Filled,
     errors: &mut [u64],
-    begin: usize,
     attributes: &mut [u64],
 ) -> Filled
     requires { (start ≤ end) × (end ≤ length input.now) × (depth + left ≤ 17)
-        × Room (parts left input.now (fields error_fields input.now start end)) first begin errors.old
-        attributes.old }
+        × Room (parts left input.now (fields error_fields input.now start end)) first.next first.row
+        errors.old attributes.old }
     ensures { Fills (parts left input.now (fields error_fields input.now start end)) depth index
-        first begin errors.old attributes.old errors.new attributes.new result }
+        first.next first.row errors.old attributes.old errors.new attributes.new result }
 {
     let mut at = start;
-    let mut next = first;
-    let mut k = begin;
+    let mut filled = first;
     while at < end {
-        match read_known(input, at, end, ERROR_FIELDS) {
-            Field::Broken => {
-                return Filled { next, row: k };
-            }
-            Field::Whole(number, _, _, content, stop) => {
-                let filled = fill_inside(
-                    input, at, number, content, stop, left, depth, index, next, errors, k,
-                    attributes,
-                );
-                next = filled.next;
-                k = filled.row;
-                at = stop;
-            }
-        }
+        let Some(field) = read_known(input, at, end, ERROR_FIELDS) else {
+            return filled;
+        };
+        filled = fill_inside(
+            input, at, field, left, depth, index, filled, errors, attributes,
+        );
+        at = field.stop;
     }
-    Filled { next, row: k }
+    filled
 }
 
 // The whole tree.
@@ -256,5 +242,6 @@ pub(crate) fn fill_error(input: &[u8], errors: &mut [u64], attributes: &mut [u64
         own.place2,
         own.value2,
     );
-    fill_held(input, 0, input.len(), 15, 2, 0, 1, errors, 0, attributes);
+    let held = Filled { next: 1, row: 0 };
+    fill_held(input, 0, input.len(), 15, 2, 0, held, errors, attributes);
 }

@@ -13,8 +13,9 @@ use Rattle.words.proofs.DecideLaws.{first_none, first_miss, first_hit, first_end
 use Rattle.error_tree.specs.Reading.{error_entry, attribute_entry}
 use Rattle.error_tree.specs.declared.refusal.ErrorRefusal.TheVariants.{BadTable}
 use Rattle.error_table.specs.Table.{errors_in, attributes_in, code_in, depth_in, text_in, text_length_in, index_in, key_in, key_length_in, value_in, value_length_in, outside, deepest, bad_depth, bad_error, bad_attribute, first_bad_error, first_bad_attribute, table_order}
-use Rattle.error_table.specs.Statement.{ChecksTables}
-use Rattle.error_table.specs.declared.table.Verdict.TheVariants.{Passed, Failed}
+use Rattle.error_table.specs.Statement.{FindsFirst, ChecksTables}
+use Rattle.std.specs.declared.option.Option.TheVariants.{Some, None}
+use Rattle.std.specs.declared.result.Result.TheVariants.{Ok, Err}
 
 pub outside_long : (size offset n : ℕ) → size < n → true ≡ outside size offset n
 outside_long size offset n h = sym (lt-ltb size (offset + n) (omega arith))
@@ -83,6 +84,10 @@ module _ (size errors : ℕ) (attributes : List ℕ) (k : ℕ) where
     unfolding bad_attribute
     value_outside b e h r out = rw (lt-ltb (index_in attributes k) errors low, ← e, h) out
 
+-- where there is none
+pub found_none : (n found : ℕ) → FindsFirst n found None → n ≤ found
+found_none n found none = let e : found ≡ n = none in omega arith
+
 -- A search for the first entry that fails a test, n of them; those before i pass it
 module _ (test : ℕ → Bool) (n : ℕ) where
   abbrev pub Seeking : ℕ → Type 0
@@ -91,51 +96,50 @@ module _ (test : ℕ → Bool) (n : ℕ) where
   pub seek_begin : Seeking 0
   seek_begin = (omega arith, ap (first_from test 0) (sub-zero n))
 
-  module _ (i : ℕ) (seeking : Seeking i) where
-    pub seek_end : n ≤ i → i ≡ first test n
-    seek_end h =
-        let same : i ≡ n = omega arith in
-        same ∙ sym (first_end test n) ∙ ap (λ (k : ℕ). first_from test k (n - k)) (sym same) ∙ seeking.1
+  pub seek_end : (i : ℕ) → Seeking i → n ≤ i → FindsFirst n (first test n) None
+  seek_end i seeking h =
+      let same : i ≡ n = omega arith in
+      sym (same ∙ sym (first_end test n) ∙ ap (λ (k : ℕ). first_from test k (n - k)) (sym same) ∙ seeking.1) ∙ same
 
-    module _ (more : i < n) (b : Bool) (is : b ≡ test i) where
-      pub seek_hit : b ≡ true → i ≡ first test n
-      seek_hit h = sym (first_hit test i n more (sym is ∙ h)) ∙ seeking.1
+  module _ (i : ℕ) (seeking : Seeking i) (more : i < n) (b : Bool) (is : b ≡ test i) where
+    pub seek_hit : b ≡ true → FindsFirst n (first test n) (Some i)
+    seek_hit h = (sym (first_hit test i n more (sym is ∙ h)) ∙ seeking.1, more)
 
-      pub seek_miss : b ≡ false → Seeking (i + 1)
-      seek_miss h = (omega arith, sym (first_miss test i n more (sym is ∙ h)) ∙ seeking.1)
+    pub seek_miss : b ≡ false → Seeking (i + 1)
+    seek_miss h = (omega arith, sym (first_miss test i n more (sym is ∙ h)) ∙ seeking.1)
 
 -- The order
 
 module _ (area errors attributes : List ℕ) where
-  pub errors_cut : (length errors % error_entry ≡ 0 → ⊥) → ChecksTables area errors attributes (Failed (BadTable 1 (errors_in errors)))
+  pub errors_cut : (length errors % error_entry ≡ 0 → ⊥) → ChecksTables area errors attributes (Err (BadTable 1 (errors_in errors)))
   unfolding table_order
   errors_cut h rest = rw (ne_eqb (length errors % error_entry) 0 h)
 
   module _ (whole : length errors % error_entry ≡ 0) where
-    pub attributes_cut : (length attributes % attribute_entry ≡ 0 → ⊥) → ChecksTables area errors attributes (Failed (BadTable 1 (attributes_in attributes)))
+    pub attributes_cut : (length attributes % attribute_entry ≡ 0 → ⊥) → ChecksTables area errors attributes (Err (BadTable 1 (attributes_in attributes)))
     unfolding table_order
     attributes_cut h rest = rw (eq-eqb (length errors % error_entry) 0 whole, ne_eqb (length attributes % attribute_entry) 0 h)
 
     module _ (whole' : length attributes % attribute_entry ≡ 0) where
-      pub no_error : errors_in errors ≡ 0 → ChecksTables area errors attributes (Failed (BadTable 2 0))
+      pub no_error : errors_in errors ≡ 0 → ChecksTables area errors attributes (Err (BadTable 2 0))
       unfolding table_order
       no_error h rest = rw (eq-eqb (length errors % error_entry) 0 whole, eq-eqb (length attributes % attribute_entry) 0 whole', eq-eqb (errors_in errors) 0 h)
 
-      module _ (some : errors_in errors ≡ 0 → ⊥) (bad : ℕ) (is : bad ≡ first_bad_error (length area) errors) where
-        pub error_bad : bad < errors_in errors → ChecksTables area errors attributes (Failed (BadTable 3 bad))
+      module _ (some : errors_in errors ≡ 0 → ⊥) where
+        pub error_bad : (bad : ℕ) → FindsFirst (errors_in errors) (first_bad_error (length area) errors) (Some bad) → ChecksTables area errors attributes (Err (BadTable 3 bad))
         unfolding table_order
-        error_bad h rest =
-            rw (eq-eqb (length errors % error_entry) 0 whole, eq-eqb (length attributes % attribute_entry) 0 whole', ne_eqb (errors_in errors) 0 some, ← is, lt-ltb bad (errors_in errors) h)
+        error_bad bad is rest =
+            rw (eq-eqb (length errors % error_entry) 0 whole, eq-eqb (length attributes % attribute_entry) 0 whole', ne_eqb (errors_in errors) 0 some, ← is.0, lt-ltb bad (errors_in errors) is.1)
 
-        module _ (good : errors_in errors ≤ bad) (worse : ℕ) (is' : worse ≡ first_bad_attribute (length area) (errors_in errors) attributes) where
-          pub attribute_bad : worse < attributes_in attributes → ChecksTables area errors attributes (Failed (BadTable 3 worse))
+        module _ (good : errors_in errors ≤ first_bad_error (length area) errors) where
+          pub attribute_bad : (bad : ℕ) → FindsFirst (attributes_in attributes) (first_bad_attribute (length area) (errors_in errors) attributes) (Some bad) → ChecksTables area errors attributes (Err (BadTable 3 bad))
           unfolding table_order
-          attribute_bad h rest =
-              rw (eq-eqb (length errors % error_entry) 0 whole, eq-eqb (length attributes % attribute_entry) 0 whole', ne_eqb (errors_in errors) 0 some, ← is, le-ltb bad (errors_in errors) good, ← is', lt-ltb worse (attributes_in attributes) h)
+          attribute_bad bad is rest =
+              rw (eq-eqb (length errors % error_entry) 0 whole, eq-eqb (length attributes % attribute_entry) 0 whole', ne_eqb (errors_in errors) 0 some, le-ltb (first_bad_error (length area) errors) (errors_in errors) good, ← is.0, lt-ltb bad (attributes_in attributes) is.1)
 
-          pub tables_pass : attributes_in attributes ≤ worse → ChecksTables area errors attributes Passed
+          pub tables_pass : attributes_in attributes ≤ first_bad_attribute (length area) (errors_in errors) attributes → ChecksTables area errors attributes (Ok tt)
           unfolding table_order first_bad_error first_bad_attribute
-          tables_pass h = (
+          tables_pass good' = (
             record {
               whole_errors = omega arith;
               whole_attributes = omega arith;
@@ -143,5 +147,5 @@ module _ (area errors attributes : List ℕ) where
               good_error = λ i below. first_none (bad_error (length area) errors) 0 (errors_in errors) i (omega arith) (omega arith);
               good_attribute = λ k below. first_none (bad_attribute (length area) (errors_in errors) attributes) 0 (attributes_in attributes) k (omega arith) (omega arith);
             },
-            λ rest. rw (eq-eqb (length errors % error_entry) 0 whole, eq-eqb (length attributes % attribute_entry) 0 whole', ne_eqb (errors_in errors) 0 some, ← is, le-ltb bad (errors_in errors) good, ← is', le-ltb worse (attributes_in attributes) h),
+            λ rest. rw (eq-eqb (length errors % error_entry) 0 whole, eq-eqb (length attributes % attribute_entry) 0 whole', ne_eqb (errors_in errors) 0 some, le-ltb (first (bad_error (length area) errors) (errors_in errors)) (errors_in errors) good, le-ltb (first (bad_attribute (length area) (errors_in errors) attributes) (attributes_in attributes)) (attributes_in attributes) good'),
           )

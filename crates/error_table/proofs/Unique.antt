@@ -8,10 +8,10 @@ use Rattle.words.specs.Statement.{OneResult}
 use Rattle.error_tree.proofs.Unique.{paper_told, passes_or_stops}
 use Rattle.error_table.specs.Table.{table_order}
 use Rattle.error_table.specs.Statement.{ChecksTables}
-use Rattle.error_table.specs.declared.table.Verdict.TheVariants.{Passed, Failed}
+use Rattle.std.specs.declared.result.Result.TheVariants.{Ok, Err}
 
 pub check_tables_unique : (area errors attributes : List ℕ) → OneResult (ChecksTables area errors attributes)
-check_tables_unique area errors attributes Passed Passed p q = refl
-check_tables_unique area errors attributes Passed (Failed refusal) p q = absurd (passes_or_stops (decide (table_order area errors attributes)) refusal p.1 q)
-check_tables_unique area errors attributes (Failed refusal) Passed p q = absurd (passes_or_stops (decide (table_order area errors attributes)) refusal q.1 p)
-check_tables_unique area errors attributes (Failed refusal) (Failed refusal') p q = ap Failed (paper_told refusal refusal' (sym (p (accepted 0 [])) ∙ q (accepted 0 [])))
+check_tables_unique area errors attributes (Ok _) (Ok _) p q = refl
+check_tables_unique area errors attributes (Ok _) (Err refusal) p q = absurd (passes_or_stops (decide (table_order area errors attributes)) refusal p.1 q)
+check_tables_unique area errors attributes (Err refusal) (Ok _) p q = absurd (passes_or_stops (decide (table_order area errors attributes)) refusal q.1 p)
+check_tables_unique area errors attributes (Err refusal) (Err refusal') p q = ap Err (paper_told refusal refusal' (sym (p (accepted 0 [])) ∙ q (accepted 0 [])))

@@ -1,12 +1,16 @@
 -- What `check_tables` promises, by name. Assumes nothing.
-use Rattle.std.specs.Prelude.{ℕ, ◌*◌, ◌<◌, ◌≡◌, false, List, length}
+use Rattle.std.specs.Prelude.{ℕ, ◌*◌, ◌<◌, ◌≡◌, false, List, length, Option, Some, None, Result, Ok, Err}
 use Rattle.words.specs.Answer.{Answer}
 use Rattle.words.specs.Decide.{decide}
 use Rattle.error_tree.specs.Reading.{error_entry, attribute_entry}
 use Rattle.error_tree.specs.Paper.{paper}
 use Rattle.error_table.specs.Table.{errors_in, attributes_in, bad_error, bad_attribute, table_order}
-use Rattle.error_table.specs.declared.table.Verdict.{Verdict}
-use Rattle.error_table.specs.declared.table.Verdict.TheVariants.{Passed, Failed}
+use Rattle.error_tree.specs.declared.refusal.ErrorRefusal.{ErrorRefusal}
+
+-- the first of n, which is a number below n; or none, which is n itself
+abbrev pub FindsFirst : ℕ → ℕ → Option ℕ → Type 0
+FindsFirst n found (Some i) = (i ≡ found) × (i < n)
+FindsFirst n found None = found ≡ n
 
 -- tables of whole entries, at least one of them an error, none of them bad
 pub record Sound (area errors attributes : List ℕ) : Type 0 where
@@ -18,8 +22,8 @@ pub record Sound (area errors attributes : List ℕ) : Type 0 where
       → bad_attribute (length area) (errors_in errors) attributes k ≡ false
 
 -- where no rule of 18 is broken the tables are sound, and what follows decides; else the refusal, whatever follows
-abbrev pub ChecksTables : List ℕ → List ℕ → List ℕ → Verdict → Type 0
-ChecksTables area errors attributes Passed =
+abbrev pub ChecksTables : List ℕ → List ℕ → List ℕ → Result (Unit {0}) ErrorRefusal → Type 0
+ChecksTables area errors attributes (Ok _) =
     Sound area errors attributes × ((rest : Answer) → decide (table_order area errors attributes) rest ≡ rest)
-ChecksTables area errors attributes (Failed refusal) =
+ChecksTables area errors attributes (Err refusal) =
     (rest : Answer) → decide (table_order area errors attributes) rest ≡ paper refusal

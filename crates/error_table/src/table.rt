@@ -1,17 +1,11 @@
 // 18, in its order: both tables' widths, no error, then the first bad entry, errors before attributes.
 ghost use Rattle.std.specs.Prelude.{◌≡◌, ◌+◌, ◌*◌, ◌≤◌, length};
 ghost use Rattle.error_tree.specs.Reading.{error_entry, attribute_entry};
-ghost use Rattle.error_table.specs.Table.{outside, bad_depth, bad_error, first_bad_error, bad_attribute, first_bad_attribute};
-ghost use Rattle.error_table.specs.Statement.{ChecksTables};
+ghost use Rattle.error_table.specs.Table.{errors_in, attributes_in, outside, bad_depth, bad_error, first_bad_error, bad_attribute, first_bad_attribute};
+ghost use Rattle.error_table.specs.Statement.{FindsFirst, ChecksTables};
 
 use error_tree::refusal::ErrorRefusal;
 use error_tree::table::{ATTRIBUTE_ENTRY, ERROR_ENTRY};
-
-#[derive(Clone, Copy)]
-pub enum Verdict {
-    Passed,
-    Failed(ErrorRefusal),
-}
 
 // Whether a stretch reaches past an area of so many bytes.
 fn reaches_outside(size: u64, offset: u64, length: u64) -> bool
@@ -59,19 +53,16 @@ fn bad_error(size: u64, errors: &[u64], i: usize) -> bool
     )
 }
 
-// The first bad error, else how many there are.
-fn first_bad_error(size: u64, errors: &[u64]) -> usize
-    ensures { result ≡ first_bad_error size errors.now }
+// The first bad error, if any.
+fn first_bad_error(size: u64, errors: &[u64]) -> Option<usize>
+    ensures { FindsFirst (errors_in errors.now) (first_bad_error size errors.now) result }
 {
-    let n = errors.len() / ERROR_ENTRY;
-    let mut i = 0;
-    while i < n {
+    for i in 0..errors.len() / ERROR_ENTRY {
         if bad_error(size, errors, i) {
-            return i;
+            return Some(i);
         }
-        i += 1;
     }
-    i
+    None
 }
 
 // Rule 3 of an attribute's entry, there being so many errors.
@@ -96,58 +87,47 @@ fn bad_attribute(size: u64, errors: u64, attributes: &[u64], k: usize) -> bool
     )
 }
 
-// The first bad attribute, else how many there are.
-fn first_bad_attribute(size: u64, errors: u64, attributes: &[u64]) -> usize
-    ensures { result ≡ first_bad_attribute size errors attributes.now }
+// The first bad attribute, if any.
+fn first_bad_attribute(size: u64, errors: u64, attributes: &[u64]) -> Option<usize>
+    ensures { FindsFirst (attributes_in attributes.now)
+        (first_bad_attribute size errors attributes.now) result }
 {
-    let n = attributes.len() / ATTRIBUTE_ENTRY;
-    let mut k = 0;
-    while k < n {
+    for k in 0..attributes.len() / ATTRIBUTE_ENTRY {
         if bad_attribute(size, errors, attributes, k) {
-            return k;
+            return Some(k);
         }
-        k += 1;
     }
-    k
+    None
 }
 
 // Whether the tables can be written from the area, else 18.
-pub fn check_tables(area: &[u8], errors: &[u64], attributes: &[u64]) -> Verdict
+pub fn check_tables(area: &[u8], errors: &[u64], attributes: &[u64]) -> Result<(), ErrorRefusal>
     ensures { ChecksTables area.now errors.now attributes.now result }
 {
     let count = errors.len() / ERROR_ENTRY;
-    let rows = attributes.len() / ATTRIBUTE_ENTRY;
     if errors.len() % ERROR_ENTRY != 0 {
-        return Verdict::Failed(ErrorRefusal::BadTable {
+        return Err(ErrorRefusal::BadTable {
             rule: 1,
             position: count,
         });
     }
     if attributes.len() % ATTRIBUTE_ENTRY != 0 {
-        return Verdict::Failed(ErrorRefusal::BadTable {
+        return Err(ErrorRefusal::BadTable {
             rule: 1,
-            position: rows,
+            position: attributes.len() / ATTRIBUTE_ENTRY,
         });
     }
     if count == 0 {
-        return Verdict::Failed(ErrorRefusal::BadTable {
+        return Err(ErrorRefusal::BadTable {
             rule: 2,
             position: 0,
         });
     }
-    let bad = first_bad_error(area.len() as u64, errors);
-    if bad < count {
-        return Verdict::Failed(ErrorRefusal::BadTable {
-            rule: 3,
-            position: bad,
-        });
+    if let Some(position) = first_bad_error(area.len() as u64, errors) {
+        return Err(ErrorRefusal::BadTable { rule: 3, position });
     }
-    let worse = first_bad_attribute(area.len() as u64, count as u64, attributes);
-    if worse < rows {
-        return Verdict::Failed(ErrorRefusal::BadTable {
-            rule: 3,
-            position: worse,
-        });
+    if let Some(position) = first_bad_attribute(area.len() as u64, count as u64, attributes) {
+        return Err(ErrorRefusal::BadTable { rule: 3, position });
     }
-    Verdict::Passed
+    Ok(())
 }

@@ -10,60 +10,60 @@ use Rattle.words.proofs.DecideLaws.{pick_case}
 use Rattle.field.specs.Field.{number_at, type_at, stop_at, whole_field}
 use Rattle.field.specs.Statement.{ReadsField}
 use Rattle.field.specs.declared.field.Field.{Field}
-use Rattle.field.specs.declared.field.Field.TheVariants.{Whole, Broken}
+use Rattle.std.specs.declared.option.Option.TheVariants.{Some, None}
 use Rattle.field.proofs.FieldLaws.{stop_far, whole_before}
 use Rattle.error_tree.specs.Message.{wire_type, whole_in, fields_in, fields}
-use Rattle.error_tree.specs.Statement.{ReadsKnown}
+use Rattle.error_tree.specs.Statement.{TypesField, ReadsKnown}
 
 -- The wire type
 
 module _ (known number : ℕ) where
-  pub type_any : known < number → 8 ≡ wire_type known number
+  pub type_any : known < number → TypesField known number None
   unfolding wire_type
   type_any h = rw (lt-ltb known number h)
 
   module _ (low : number ≤ known) where
-    pub type_code : known ≡ 4 → number ≡ 1 → 0 ≡ wire_type known number
+    pub type_code : known ≡ 4 → number ≡ 1 → TypesField known number (Some 0)
     unfolding wire_type
-    type_code k n = rw (le-ltb known number low, k, n)
+    type_code k n = (rw (le-ltb known number low, k, n), omega arith)
 
-    pub type_other : known ≡ 4 → (number ≡ 1 → ⊥) → 2 ≡ wire_type known number
+    pub type_other : known ≡ 4 → (number ≡ 1 → ⊥) → TypesField known number (Some 2)
     unfolding wire_type
-    type_other k n = rw (le-ltb known number low, k, ne_eqb number 1 n)
+    type_other k n = (rw (le-ltb known number low, k, ne_eqb number 1 n), omega arith)
 
-    pub type_bytes : (known ≡ 4 → ⊥) → 2 ≡ wire_type known number
+    pub type_bytes : (known ≡ 4 → ⊥) → TypesField known number (Some 2)
     unfolding wire_type
-    type_bytes k = rw (le-ltb known number low, ne_eqb known 4 k)
+    type_bytes k = (rw (le-ltb known number low, ne_eqb known 4 k), omega arith)
 
 -- A field of a message
 
-module _ (known : ℕ) (s : List ℕ) (at end : ℕ) (r : Field) (reads : ReadsField s at end r) where
-  pub known_broken : r ≡ Broken → ReadsKnown known s at end Broken
+pub known_cut : (known : ℕ) (s : List ℕ) (at end : ℕ) → ReadsField s at end None → ReadsKnown known s at end None
+unfolding whole_in
+known_cut known s at end h = let cut : whole_field s at end ≡ false = h in rw cut
+
+module _ (known : ℕ) (s : List ℕ) (at end : ℕ) (f : Field) (all : ReadsField s at end (Some f)) where
+  held : whole_in known s at end ≡ true → ReadsKnown known s at end (Some f)
+  held w = (w, all.1, all.2, all.3, all.4, all.5, all.6, all.7, all.8)
+
+  pub known_any : TypesField known f.number None → ReadsKnown known s at end (Some f)
   unfolding whole_in
-  known_broken e = let cut : whole_field s at end ≡ false = rw e at reads in rw cut
+  known_any any = let h : wire_type known (number_at s at) ≡ 8 = rw all.1 at any in held (rw (all.0, h))
 
-  module _ (number type value content stop : ℕ) (e : r ≡ Whole number type value content stop) (own : ℕ) (is : own ≡ wire_type known number) where
-    all : ReadsField s at end (Whole number type value content stop)
-    all = rw e at reads
-
+  module _ (own : ℕ) (types : TypesField known f.number (Some own)) where
     own_is : wire_type known (number_at s at) ≡ own
-    own_is = ap (wire_type known) (sym all.1) ∙ sym is
+    own_is = rw all.1 at types.0
 
-    held : whole_in known s at end ≡ true → ReadsKnown known s at end (Whole number type value content stop)
-    held w = (w, all.1, all.2, all.3, all.4, all.5, all.6, all.7, all.8)
+    own_not : own ≡ 8 → ⊥
+    own_not = let low : own < 8 = types.1 in omega arith
 
-    pub known_any : own ≡ 8 → ReadsKnown known s at end (Whole number type value content stop)
+    pub known_own : own ≡ f.wire → ReadsKnown known s at end (Some f)
     unfolding whole_in
-    known_any h = held (rw (all.0, own_is, h))
+    known_own h = held (rw (all.0, own_is, ne_eqb own 8 own_not, eq-eqb own (type_at s at) (h ∙ all.2)))
 
-    pub known_own : (own ≡ 8 → ⊥) → own ≡ type → ReadsKnown known s at end (Whole number type value content stop)
+    pub known_other : (own ≡ f.wire → ⊥) → ReadsKnown known s at end None
     unfolding whole_in
-    known_own k h = held (rw (all.0, own_is, ne_eqb own 8 k, eq-eqb own (type_at s at) (h ∙ all.2)))
-
-    pub known_other : (own ≡ 8 → ⊥) → (own ≡ type → ⊥) → ReadsKnown known s at end Broken
-    unfolding whole_in
-    known_other k h =
-        rw (all.0, own_is, ne_eqb own 8 k, ne_eqb own (type_at s at) (λ e. h (e ∙ sym all.2)))
+    known_other h =
+        rw (all.0, own_is, ne_eqb own 8 own_not, ne_eqb own (type_at s at) (λ e. h (e ∙ sym all.2)))
 
 -- The list of the fields: what is whole at `at` is the first of them, and where nothing is there is none
 

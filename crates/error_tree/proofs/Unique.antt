@@ -1,6 +1,6 @@
 -- One result for each statement. The refusals' map to their numbers is one-to-one, since it has a left inverse. Assumes nothing.
 use mathlib.Core.Path.{◌≡◌, refl, sym, ◌∙◌, ap}
-use mathlib.Core.Bool.{true, false, true≢false}
+use mathlib.Core.Bool.{true≢false}
 use mathlib.Core.List.{List, [], ◌∷◌}
 use Prim.Native.Nat.{ℕ}
 use lib.ListN.{get_or}
@@ -11,7 +11,7 @@ use Rattle.words.specs.Paper.{Tells, outcome}
 use Rattle.words.proofs.Unique.{equal_to_one}
 use Rattle.words.proofs.AnswerLaws.{refused_not_accepted}
 use Rattle.words.proofs.PaperLaws.{no_room_of, no_room_back}
-use Rattle.field.specs.declared.field.Field.TheVariants.{Whole, Broken}
+use Rattle.std.specs.declared.option.Option.TheVariants.{Some, None}
 use Rattle.error_tree.specs.Paper.{paper}
 use Rattle.error_tree.specs.Statement.{ReadsKnown}
 use Rattle.error_tree.specs.declared.refusal.ErrorRefusal.{ErrorRefusal}
@@ -53,8 +53,14 @@ pub refusal_outcome_unique : (answer : ErrorRefusal) → OneResult (Tells (paper
 refusal_outcome_unique answer = equal_to_one (outcome (paper answer))
 
 pub read_known_unique : (known : ℕ) (s : List ℕ) (at end : ℕ) → OneResult (ReadsKnown known s at end)
-read_known_unique known s at end (Whole n t v c e) (Whole n' t' v' c' e') p q =
-    λ i. Whole ((p.1 ∙ sym q.1) i) ((p.2 ∙ sym q.2) i) ((p.3 ∙ sym q.3) i) ((p.4 ∙ sym q.4) i) ((p.5 ∙ sym q.5) i)
-read_known_unique known s at end (Whole n t v c e) Broken p q = absurd (true≢false (sym p.0 ∙ q))
-read_known_unique known s at end Broken (Whole n t v c e) p q = absurd (true≢false (sym q.0 ∙ p))
-read_known_unique known s at end Broken Broken p q = λ i. Broken
+read_known_unique known s at end (Some f) (Some g) p q =
+    λ i. Some record {
+      number = (p.1 ∙ sym q.1) i;
+      wire = (p.2 ∙ sym q.2) i;
+      value = (p.3 ∙ sym q.3) i;
+      content = (p.4 ∙ sym q.4) i;
+      stop = (p.5 ∙ sym q.5) i;
+    }
+read_known_unique known s at end (Some f) None p q = absurd (true≢false (sym p.0 ∙ q))
+read_known_unique known s at end None (Some g) p q = absurd (true≢false (sym q.0 ∙ p))
+read_known_unique known s at end None None p q = λ i. None

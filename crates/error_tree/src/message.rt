@@ -1,7 +1,5 @@
 // A field of one of the three messages: those that the message knows have a type of their own.
-ghost use Rattle.std.specs.Prelude.{◌≡◌};
-ghost use Rattle.error_tree.specs.Message.{wire_type};
-ghost use Rattle.error_tree.specs.Statement.{ReadsKnown};
+ghost use Rattle.error_tree.specs.Statement.{TypesField, ReadsKnown};
 
 use field::field::{Field, read_field};
 
@@ -12,40 +10,29 @@ pub const DICTIONARY_FIELDS: u64 = 1;
 
 pub const ATTRIBUTE_FIELDS: u64 = 2;
 
-// Of a field that the message does not know.
-const ANY_TYPE: u64 = 8;
-
-// The wire type of a field of a message that knows so many.
-fn wire_type(known: u64, number: u64) -> u64
-    ensures { result ≡ wire_type known number }
+// The wire type of a field of a message that knows so many fields, where it knows this one.
+fn wire_type(known: u64, number: u64) -> Option<u64>
+    ensures { TypesField known number result }
 {
     if known < number {
-        return ANY_TYPE;
+        return None;
     }
-    if known == ERROR_FIELDS {
-        if number == 1 {
-            return 0;
-        }
-        return 2;
+    if known == ERROR_FIELDS && number == 1 {
+        return Some(0);
     }
-    2
+    Some(2)
 }
 
 // The field at `at` of a message that ends at `end` and knows so many fields: one that it knows has its own wire type.
-pub fn read_known(input: &[u8], at: usize, end: usize, known: u64) -> Field
+pub fn read_known(input: &[u8], at: usize, end: usize, known: u64) -> Option<Field>
     ensures { ReadsKnown known input.now at end result }
 {
-    match read_field(input, at, end) {
-        Field::Broken => Field::Broken,
-        Field::Whole(number, wire, value, content, stop) => {
-            let own = wire_type(known, number);
-            if own == ANY_TYPE {
-                return Field::Whole(number, wire, value, content, stop);
-            }
-            if own == wire {
-                return Field::Whole(number, wire, value, content, stop);
-            }
-            Field::Broken
-        }
+    let field = read_field(input, at, end)?;
+    let Some(own) = wire_type(known, field.number) else {
+        return Some(field);
+    };
+    if own != field.wire {
+        return None;
     }
+    Some(field)
 }

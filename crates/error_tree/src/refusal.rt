@@ -17,13 +17,15 @@ pub enum ErrorRefusal {
 }
 
 // A refusal in words.
-pub fn refusal_outcome(answer: ErrorRefusal) -> Outcome
-    ensures { Tells (paper answer) result }
-{
-    match answer {
-        ErrorRefusal::BadMessage { place } => refusal(22, 0, place as u64, 0, 0),
-        ErrorRefusal::ErrorsTooDeep { place } => refusal(23, 0, place as u64, 0, 0),
-        ErrorRefusal::BadTable { rule, position } => refusal(18, 0, rule, position as u64, 0),
-        ErrorRefusal::NoRoom(short) => no_room(short),
+impl From<ErrorRefusal> for Outcome {
+    ghost from_gives = { λ answer result. Tells (paper answer) result };
+
+    fn from(answer: ErrorRefusal) -> Outcome {
+        match answer {
+            ErrorRefusal::BadMessage { place } => refusal(22, 0, place as u64, 0, 0),
+            ErrorRefusal::ErrorsTooDeep { place } => refusal(23, 0, place as u64, 0, 0),
+            ErrorRefusal::BadTable { rule, position } => refusal(18, 0, rule, position as u64, 0),
+            ErrorRefusal::NoRoom(short) => no_room(short),
+        }
     }
 }

@@ -10,15 +10,13 @@ use lib.ListN.{length}
 use Rattle.words.specs.Answer.{Answer}
 use Rattle.field.specs.Field.{stop_at}
 use Rattle.field.specs.declared.field.Field.{Field}
-use Rattle.field.specs.declared.field.Field.TheVariants.{Whole, Broken}
 use Rattle.error_tree.specs.Message.{whole_in, fields}
 use Rattle.error_tree.specs.Reading.{check_fields, check_message, nothing}
-use Rattle.error_tree.specs.Statement.{ReadsKnown, Lies}
-use Rattle.error_walk.specs.Stages.{sum_of, no, WalksMessage, WalksField}
+use Rattle.error_tree.specs.Statement.{Lies}
+use Rattle.error_walk.specs.Stages.{NextField, sum_of, no, WalksMessage, WalksField}
 use Rattle.error_tree.specs.declared.refusal.ErrorRefusal.{ErrorRefusal}
-use Rattle.error_tree.specs.declared.refusal.ErrorRefusal.TheVariants.{BadMessage}
-use Rattle.error_walk.specs.declared.walk.Walked.{Walked}
-use Rattle.error_walk.specs.declared.walk.Walked.TheVariants.{Counted, Stopped}
+use Rattle.error_walk.specs.declared.walk.Counted.{Counted}
+use Rattle.std.specs.declared.result.Result.TheVariants.{Ok, Err}
 use Rattle.error_tree.proofs.MessageLaws.{fields_more, fields_none, fields_end}
 
 -- One message, whatever its fields hold: `e` errors and `a` attributes were passed, and the fields from `at` on are still to come
@@ -37,7 +35,7 @@ module _ (each : ℕ → Answer → Answer) (errors attributes : ℕ → ℕ) (k
 
 module _ {each : ℕ → Answer → Answer} {errors attributes : ℕ → ℕ} {known : ℕ} {s : List ℕ} {start end at e a : ℕ} (left : Left each errors attributes known s start end at e a) where
   -- the end is reached
-  pub done : end ≤ at → WalksMessage each errors attributes known s start end (Counted e a)
+  pub done : end ≤ at → WalksMessage each errors attributes known s start end (Ok record { errors = e; attributes = a })
   unfolding sum_of check_fields
   done h =
       let none : fields known s at end ≡ [] = fields_end known s end at h in
@@ -47,78 +45,69 @@ module _ {each : ℕ → Answer → Answer} {errors attributes : ℕ → ℕ} {k
       let to : at ≤ end = left.to in
       (omega arith, omega arith, omega arith, (λ rest. sym (left.checks_left rest) ∙ rw (none, le-ltb at end h)))
 
-  module _ (more : at < end) (r : Field) (reads : ReadsKnown known s at end r) where
-    -- no whole field stands here
-    pub broken : r ≡ Broken → WalksMessage each errors attributes known s start end (Stopped (BadMessage at))
+  -- no whole field stands here
+  pub broken : at < end → (refusal : ErrorRefusal) → NextField known s at end (Err refusal) → WalksMessage each errors attributes known s start end (Err refusal)
+  unfolding check_fields
+  broken more refusal next rest =
+      let cut : whole_in known s at end ≡ false = next.1 in
+      sym (left.checks_left rest) ∙ rw (fields_none known s end at cut, lt-ltb at end more, next.0)
+
+  module _ (f : Field) (whole : NextField known s at end (Ok f)) where
+    pub ahead : (at < f.stop) × (f.stop ≤ end)
+    ahead =
+        let low : at < f.content = whole.6 in
+        let high : f.content ≤ f.stop = whole.7 in
+        (omega arith, whole.8)
+
+    pub lies : end ≤ length s → Lies s at f
+    lies h = (whole.1, whole.4, whole.5, whole.6, whole.7, (let far : f.stop ≤ end = whole.8 in omega arith))
+
+    pub stopped : (refusal : ErrorRefusal) → WalksField each errors attributes s at (Err refusal) → WalksMessage each errors attributes known s start end (Err refusal)
     unfolding check_fields
-    broken q rest =
-        let cut : whole_in known s at end ≡ false = rw q at reads in
-        sym (left.checks_left rest) ∙ rw (fields_none known s end at cut, lt-ltb at end more)
+    stopped refusal stops rest =
+        sym (left.checks_left rest) ∙ rw (fields_more known s end at whole.0) (stops (check_message each known s (stop_at s at) end rest))
 
-    module _ (number type value content stop : ℕ) (q : r ≡ Whole number type value content stop) where
-      whole : ReadsKnown known s at end (Whole number type value content stop)
-      whole = rw q at reads
+    module _ (c : Counted) (passes : WalksField each errors attributes s at (Ok c)) where
+      pub fewer : e + a + (c.errors + c.attributes) ≤ f.stop - start
+      fewer =
+          let there : f.stop ≡ stop_at s at = whole.5 in
+          let from : start ≤ at = left.from in
+          let few : e + a ≤ at - start = left.few in
+          let few' : c.errors + c.attributes ≤ stop_at s at - at = passes.2 in
+          let ahead : at < f.content = whole.6 in
+          let ahead' : f.content ≤ f.stop = whole.7 in
+          omega arith
 
-      pub ahead : (at < stop) × (stop ≤ end)
-      ahead =
-          let low : at < content = whole.6 in
-          let high : content ≤ stop = whole.7 in
-          (omega arith, whole.8)
-
-      pub lies : end ≤ length s → Lies s at number content stop
-      lies h = (whole.1, whole.4, whole.5, whole.6, whole.7, (let far : stop ≤ end = whole.8 in omega arith))
-
-      module _ (w : Walked) (walks : WalksField each errors attributes s at w) where
-        pub stopped : (refusal : ErrorRefusal) → w ≡ Stopped refusal → WalksMessage each errors attributes known s start end (Stopped refusal)
-        unfolding check_fields
-        stopped refusal p rest =
-            let stops : WalksField each errors attributes s at (Stopped refusal) = rw p at walks in
-            sym (left.checks_left rest) ∙ rw (fields_more known s end at whole.0) (stops (check_message each known s (stop_at s at) end rest))
-
-        pub fewer : (e' a' : ℕ) → w ≡ Counted e' a' → e + a + (e' + a') ≤ stop - start
-        fewer e' a' p =
-            let passes : WalksField each errors attributes s at (Counted e' a') = rw p at walks in
-            let there : stop ≡ stop_at s at = whole.5 in
-            let from : start ≤ at = left.from in
-            let few : e + a ≤ at - start = left.few in
-            let few' : e' + a' ≤ stop_at s at - at = passes.2 in
-            let ahead : at < content = whole.6 in
-            let ahead' : content ≤ stop = whole.7 in
-            omega arith
-
-        pub goes : (e' a' : ℕ) → w ≡ Counted e' a' → Left each errors attributes known s start end stop (e + e') (a + a')
-        unfolding check_fields sum_of
-        goes e' a' p =
-            let passes : WalksField each errors attributes s at (Counted e' a') = rw p at walks in
-            let there : stop ≡ stop_at s at = whole.5 in
-            let first : fields known s at end ≡ at ∷ fields known s (stop_at s at) end = fields_more known s end at whole.0 in
-            let es : e + (errors at + sum_of errors (fields known s (stop_at s at) end)) ≡ sum_of errors (fields known s start end) = rw first at left.errors_left in
-            let «as» : a + (attributes at + sum_of attributes (fields known s (stop_at s at) end)) ≡ sum_of attributes (fields known s start end) = rw first at left.attributes_left in
-            let unrolled : (rest : Answer) → each at (check_message each known s (stop_at s at) end rest) ≡ check_message each known s start end rest = rw first at left.checks_left in
-            let e-is : e' ≡ errors at = passes.0 in
-            let a-is : a' ≡ attributes at = passes.1 in
-            let from : start ≤ at = left.from in
-            let ahead : at < content = whole.6 in
-            let ahead' : content ≤ stop = whole.7 in
-            record {
-              from = omega arith;
-              to = whole.8;
-              few = let f : e + a + (e' + a') ≤ stop - start = fewer e' a' p in omega arith;
-              errors_left = rw there (omega arith);
-              attributes_left = rw there (omega arith);
-              checks_left = rw there (λ rest. sym (passes.3 (check_message each known s (stop_at s at) end rest)) ∙ unrolled rest);
-            }
+      pub goes : Left each errors attributes known s start end f.stop (e + c.errors) (a + c.attributes)
+      unfolding check_fields sum_of
+      goes =
+          let there : f.stop ≡ stop_at s at = whole.5 in
+          let first : fields known s at end ≡ at ∷ fields known s (stop_at s at) end = fields_more known s end at whole.0 in
+          let es : e + (errors at + sum_of errors (fields known s (stop_at s at) end)) ≡ sum_of errors (fields known s start end) = rw first at left.errors_left in
+          let «as» : a + (attributes at + sum_of attributes (fields known s (stop_at s at) end)) ≡ sum_of attributes (fields known s start end) = rw first at left.attributes_left in
+          let unrolled : (rest : Answer) → each at (check_message each known s (stop_at s at) end rest) ≡ check_message each known s start end rest = rw first at left.checks_left in
+          let e-is : c.errors ≡ errors at = passes.0 in
+          let a-is : c.attributes ≡ attributes at = passes.1 in
+          let from : start ≤ at = left.from in
+          let ahead : at < f.content = whole.6 in
+          let ahead' : f.content ≤ f.stop = whole.7 in
+          record {
+            from = omega arith;
+            to = whole.8;
+            few = let less : e + a + (c.errors + c.attributes) ≤ f.stop - start = fewer in omega arith;
+            errors_left = rw there (omega arith);
+            attributes_left = rw there (omega arith);
+            checks_left = rw there (λ rest. sym (passes.3 (check_message each known s (stop_at s at) end rest)) ∙ unrolled rest);
+          }
 
 -- a field that is passed by holds nothing
-pub passes_by : (s : List ℕ) (at : ℕ) → WalksField nothing no no s at (Counted 0 0)
+pub passes_by : (s : List ℕ) (at : ℕ) → WalksField nothing no no s at (Ok record { errors = 0; attributes = 0 })
 passes_by s at = (refl, refl, omega arith, (λ rest. refl))
 
 -- where no errors are counted
 pub goes_flat : {each : ℕ → Answer → Answer} {attributes : ℕ → ℕ} {known : ℕ} {s : List ℕ} {start end at a : ℕ} (left : Left each no attributes known s start end at 0 a)
-    (more : at < end) (r : Field) (reads : ReadsKnown known s at end r) (number type value content stop : ℕ) (q : r ≡ Whole number type value content stop)
-    (w : Walked) (walks : WalksField each no attributes s at w) (e' a' : ℕ) → w ≡ Counted e' a' → Left each no attributes known s start end stop 0 (a + a')
-goes_flat {each} {attributes} {known} {s} {start} {end} {at} {a} left more r reads number type value content stop q w walks e' a' p =
-    let passes : WalksField each no attributes s at (Counted e' a') = rw p at walks in
-    let none : 0 + e' ≡ 0 = zero-add e' ∙ passes.0 in
-    let gone : Left each no attributes known s start end stop (0 + e') (a + a') = goes left more r reads number type value content stop q w walks e' a' p in
+    (f : Field) (whole : NextField known s at end (Ok f)) (c : Counted) (passes : WalksField each no attributes s at (Ok c)) → Left each no attributes known s start end f.stop 0 (a + c.attributes)
+goes_flat {each} {attributes} {known} {s} {start} {end} {at} {a} left f whole c passes =
+    let none : 0 + c.errors ≡ 0 = zero-add c.errors ∙ passes.0 in
+    let gone : Left each no attributes known s start end f.stop (0 + c.errors) (a + c.attributes) = goes left f whole c passes in
     rw none at gone

@@ -15,31 +15,28 @@ use Rattle.error_tree.specs.Paper.{paper}
 use Rattle.error_tree.specs.declared.refusal.ErrorRefusal.{ErrorRefusal}
 use Rattle.error_tree.specs.declared.refusal.ErrorRefusal.TheVariants.{BadMessage, ErrorsTooDeep, BadTable, NoRoom}
 use Rattle.error_table.specs.Statement.{Sound, ChecksTables}
-use Rattle.error_table.specs.declared.table.Verdict.{Verdict}
-use Rattle.error_table.specs.declared.table.Verdict.TheVariants.{Passed, Failed}
+use Rattle.std.specs.declared.result.Result.{Result}
+use Rattle.std.specs.declared.result.Result.TheVariants.{Ok, Err}
 use Rattle.error_write.specs.Written.{error_bytes}
 use Rattle.error_write.specs.Writing.{most_bytes, needed, measuring, writing, capped}
-use Rattle.error_write.specs.Paper.{encoded_paper}
+use Rattle.error_write.specs.Paper.{bytes_paper}
 use Rattle.error_write.specs.Statement.{Measures, Encodes}
 use Rattle.error_write.specs.Stages.{Sizes}
-use Rattle.error_write.specs.declared.size.Measured.{Measured}
-use Rattle.error_write.specs.declared.size.Measured.TheVariants.{Size, Refused}
-use Rattle.error_write.specs.declared.write.Encoded.TheVariants as E
 
-module _ (area errors attributes : List ℕ) (v : Verdict) (checks : ChecksTables area errors attributes v) where
-  pub tables_sound : v ≡ Passed → Sound area errors attributes
-  tables_sound e = let passed : ChecksTables area errors attributes Passed = rw e at checks in passed.0
+module _ (area errors attributes : List ℕ) where
+  pub tables_sound : (u : Unit {0}) → ChecksTables area errors attributes (Ok u) → Sound area errors attributes
+  tables_sound u passed = passed.0
 
-  pub size_failed : (refusal : ErrorRefusal) → v ≡ Failed refusal → Sizes area errors attributes (Refused refusal)
-  size_failed refusal e = rw e at checks
+  pub size_failed : (refusal : ErrorRefusal) → ChecksTables area errors attributes (Err refusal) → Sizes area errors attributes (Err refusal)
+  size_failed refusal stops = stops
 
-  pub size_passed : v ≡ Passed → (n : ℕ) → n ≡ needed area errors attributes → Sizes area errors attributes (Size n)
-  size_passed e n is = let passed : ChecksTables area errors attributes Passed = rw e at checks in (is, passed.0, passed.1)
+  pub size_passed : (u : Unit {0}) → ChecksTables area errors attributes (Ok u) → (n : ℕ) → n ≡ needed area errors attributes → Sizes area errors attributes (Ok n)
+  size_passed u passed n is = (is, passed.0, passed.1)
 
-pub sizes_measure : (area errors attributes : List ℕ) (r : Measured) → Sizes area errors attributes r → Measures area errors attributes r
+pub sizes_measure : (area errors attributes : List ℕ) (r : Result ℕ ErrorRefusal) → Sizes area errors attributes r → Measures area errors attributes r
 unfolding measuring
-sizes_measure area errors attributes (Size n) sizes = rw sizes.0 (sym (sizes.2 _))
-sizes_measure area errors attributes (Refused refusal) sizes = sym (sizes _)
+sizes_measure area errors attributes (Ok n) sizes = rw sizes.0 (sym (sizes.2 _))
+sizes_measure area errors attributes (Err refusal) sizes = sym (sizes _)
 
 -- a refusal leaves the output as it was
 keeps : (refusal : ErrorRefusal) (ws xs : List ℕ) → xs ≡ afterwards (paper refusal) ws xs
@@ -48,26 +45,23 @@ keeps (ErrorsTooDeep place) ws xs = refl
 keeps (BadTable rule position) ws xs = refl
 keeps (NoRoom short) ws xs = refl
 
-module _ (area errors attributes out : List ℕ) (r : Measured) (sizes : Sizes area errors attributes r) where
-  refused_by : (refusal : ErrorRefusal) → writing area errors attributes (length out) ≡ paper refusal → Encodes area errors attributes out (E.Refused refusal) out
+module _ (area errors attributes out : List ℕ) where
+  refused_by : (refusal : ErrorRefusal) → writing area errors attributes (length out) ≡ paper refusal → Encodes area errors attributes out (Err refusal) out
   refused_by refusal e = rw e (refl, keeps refusal (error_bytes area errors attributes) out)
 
-  pub write_refused : (refusal : ErrorRefusal) → r ≡ Refused refusal → Encodes area errors attributes out (E.Refused refusal) out
+  pub write_refused : (refusal : ErrorRefusal) → Sizes area errors attributes (Err refusal) → Encodes area errors attributes out (Err refusal) out
   unfolding writing
-  write_refused refusal e = let stops : Sizes area errors attributes (Refused refusal) = rw e at sizes in refused_by refusal (stops _)
+  write_refused refusal stops = refused_by refusal (stops _)
 
-  module _ (n : ℕ) (e : r ≡ Size n) where
-    pub passes : Sizes area errors attributes (Size n)
-    passes = rw e at sizes
-
-    pub write_short : length out < n → Encodes area errors attributes out (E.Refused (NoRoom record { room = Output; needed = n; given = length out })) out
+  module _ (n : ℕ) (passes : Sizes area errors attributes (Ok n)) where
+    pub write_short : length out < n → Encodes area errors attributes out (Err (NoRoom record { room = Output; needed = n; given = length out })) out
     unfolding writing
     write_short h = refused_by (NoRoom record { room = Output; needed = n; given = length out }) (passes.2 _ ∙ rw (← passes.0, lt-ltb (length out) n h))
 
-    pub write_done : n ≤ length out → (out' : List ℕ) → out' ≡ over (error_bytes area errors attributes) out → Encodes area errors attributes out (E.Written n) out'
+    pub write_done : n ≤ length out → (out' : List ℕ) → out' ≡ over (error_bytes area errors attributes) out → Encodes area errors attributes out (Ok n) out'
     unfolding writing
     write_done h out' is =
-        let taken : writing area errors attributes (length out) ≡ encoded_paper (E.Written n) = passes.2 _ ∙ rw (← passes.0, le-ltb (length out) n h) in
+        let taken : writing area errors attributes (length out) ≡ bytes_paper (Ok n) = passes.2 _ ∙ rw (← passes.0, le-ltb (length out) n h) in
         rw taken (refl, is)
 
     -- what the output holds was not capped

@@ -6,7 +6,7 @@ use Prim.Native.Nat.{ℕ, ◌+◌, ◌-◌, ◌<◌, ◌≤◌}
 use native.Mathlib.Omega.{arith}
 use lib.ListN.{length, set, length-append, take, drop}
 use borrow.Rule.Slice.PartMut.{mid_of, put_mid}
-use Rattle.words.specs.Buffer.{over, fitted, stretch}
+use Rattle.words.specs.Buffer.{fitted, stretch}
 use Rattle.words.specs.Stages.{Filling}
 use Rattle.words.proofs.BufferLaws.{over_store, length_over}
 use Rattle.words.proofs.FillingLaws.{begins, opens, ends, room_left, length_now, place, mid_fits, leaves, step, closes}

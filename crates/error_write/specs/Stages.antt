@@ -1,5 +1,5 @@
 -- What the private stages promise, one to the next. Nothing here needs to be believed. Assumes nothing.
-use Rattle.std.specs.Prelude.{ℕ, ◌+◌, ◌-◌, ◌<◌, ◌≤◌, ◌≡◌, Bool, true, false, List, [], ◌∷◌, length}
+use Rattle.std.specs.Prelude.{ℕ, ◌+◌, ◌-◌, ◌<◌, ◌≤◌, ◌≡◌, Bool, true, false, List, [], ◌∷◌, length, Result, Ok, Err}
 use Rattle.words.specs.Answer.{Answer}
 use Rattle.words.specs.Buffer.{over}
 use Rattle.words.specs.Decide.{pick, decide, ◌=?◌}
@@ -9,8 +9,7 @@ use Rattle.error_table.specs.Table.{code_in, text_length_in, attributes_in, inde
 use Rattle.error_table.specs.Statement.{Sound}
 use Rattle.error_write.specs.Written.{delimited, attribute_bytes, rows_of, all_rows}
 use Rattle.error_write.specs.Writing.{needed}
-use Rattle.error_write.specs.declared.size.Measured.{Measured}
-use Rattle.error_write.specs.declared.size.Measured.TheVariants.{Size, Refused}
+use Rattle.error_tree.specs.declared.refusal.ErrorRefusal.{ErrorRefusal}
 
 -- the rows from..till are all that have the index i
 pub record Covers (attributes : List ℕ) (i from till : ℕ) : Type 0 where
@@ -44,11 +43,11 @@ abbrev pub own_size : List ℕ → ℕ → ℕ → ℕ
 own_size errors i entries = lead_size (code_in errors i) + delimited_size (text_length_in errors i) + dictionary_size entries
 
 -- where no rule of 18 is broken the tables are sound and this is their size; else the refusal, whatever follows
-abbrev pub Sizes : List ℕ → List ℕ → List ℕ → Measured → Type 0
-Sizes area errors attributes (Size n) =
+abbrev pub Sizes : List ℕ → List ℕ → List ℕ → Result ℕ ErrorRefusal → Type 0
+Sizes area errors attributes (Ok n) =
     (n ≡ needed area errors attributes) × Sound area errors attributes
     × ((rest : Answer) → decide (table_order area errors attributes) rest ≡ rest)
-Sizes area errors attributes (Refused refusal) =
+Sizes area errors attributes (Err refusal) =
     (rest : Answer) → decide (table_order area errors attributes) rest ≡ paper refusal
 
 -- no row has a smaller index than one before it

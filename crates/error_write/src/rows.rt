@@ -11,13 +11,10 @@ use error_tree::table::ATTRIBUTE_ENTRY;
 pub(crate) fn is_sorted(attributes: &[u64]) -> bool
     ensures { TellsSorted attributes.now result }
 {
-    let rows = attributes.len() / ATTRIBUTE_ENTRY;
-    let mut k = 1;
-    while k < rows {
+    for k in 1..attributes.len() / ATTRIBUTE_ENTRY {
         if attributes[ATTRIBUTE_ENTRY * k] < attributes[ATTRIBUTE_ENTRY * (k - 1)] {
             return false;
         }
-        k += 1;
     }
     true
 }
@@ -30,12 +27,10 @@ pub(crate) fn first_row(attributes: &[u64], sorted: bool, i: usize, till: usize)
     if !sorted {
         return 0;
     }
-    let mut from = till;
-    while 0 < from {
-        if attributes[ATTRIBUTE_ENTRY * (from - 1)] < (i as u64) {
-            return from;
+    for k in (0..till).rev() {
+        if attributes[ATTRIBUTE_ENTRY * k] < (i as u64) {
+            return k + 1;
         }
-        from -= 1;
     }
     0
 }

@@ -10,7 +10,7 @@ ghost use Rattle.error_write.specs.Statement.{Measures};
 ghost use Rattle.error_write.specs.Stages.{Covers, delimited_size, attribute_size, row_size, entries_size, dictionary_size, own_size, Sizes};
 
 use super::rows::{first_row, is_sorted, row_before};
-use error_table::table::{Verdict, check_tables};
+use error_table::table::check_tables;
 use error_tree::refusal::ErrorRefusal;
 use error_tree::table::{ATTRIBUTE_ENTRY, ERROR_ENTRY};
 use varint::write::varint_size;
@@ -20,12 +20,6 @@ const MOST_BYTES: u64 = 0xffff_ffff_ffff_ffff;
 
 // A sum for each depth up to one more than the deepest, 16.
 pub(crate) const SUMS: usize = 18;
-
-#[derive(Clone, Copy)]
-pub enum Measured {
-    Size(u64),
-    Refused(ErrorRefusal),
-}
 
 // A sum, at most `MOST_BYTES`.
 pub(crate) fn add_capped(a: u64, b: u64) -> u64
@@ -70,10 +64,8 @@ pub(crate) fn entries_size(attributes: &[u64], i: usize, from: usize, till: usiz
     ensures { result ≡ capped (entries_size attributes.now (all_rows attributes.now i)) }
 {
     let mut size: u64 = 0;
-    let mut k = from;
-    while k < till {
+    for k in from..till {
         size = add_capped(size, row_size(attributes, i, k));
-        k += 1;
     }
     size
 }
@@ -107,9 +99,7 @@ fn measure(area: &[u8], errors: &[u64], attributes: &[u64]) -> u64
     let sorted = is_sorted(attributes);
     let mut till = attributes.len() / ATTRIBUTE_ENTRY;
     let mut sums: [u64; SUMS] = [0; SUMS];
-    let mut i = errors.len() / ERROR_ENTRY;
-    while 1 < i {
-        i -= 1;
+    for i in (1..errors.len() / ERROR_ENTRY).rev() {
         let from = first_row(attributes, sorted, i, till);
         let own = own_size(errors, i, entries_size(attributes, i, from, till));
         till = row_before(sorted, from, till);
@@ -125,17 +115,19 @@ fn measure(area: &[u8], errors: &[u64], attributes: &[u64]) -> u64
 }
 
 // The same behind the checks of the tables.
-pub(crate) fn size_checked(area: &[u8], errors: &[u64], attributes: &[u64]) -> Measured
+pub(crate) fn size_checked(
+    area: &[u8],
+    errors: &[u64],
+    attributes: &[u64],
+) -> Result<u64, ErrorRefusal>
     ensures { Sizes area.now errors.now attributes.now result }
 {
-    match check_tables(area, errors, attributes) {
-        Verdict::Failed(refusal) => Measured::Refused(refusal),
-        Verdict::Passed => Measured::Size(measure(area, errors, attributes)),
-    }
+    check_tables(area, errors, attributes)?;
+    Ok(measure(area, errors, attributes))
 }
 
 // How many bytes `encode_error` writes, with its checks of the tables.
-pub fn error_size(area: &[u8], errors: &[u64], attributes: &[u64]) -> Measured
+pub fn error_size(area: &[u8], errors: &[u64], attributes: &[u64]) -> Result<u64, ErrorRefusal>
     ensures { Measures area.now errors.now attributes.now result }
 {
     size_checked(area, errors, attributes)

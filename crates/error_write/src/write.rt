@@ -10,8 +10,7 @@ ghost use Rattle.error_write.specs.Stages.{Puts, Covers, row_bytes};
 
 use super::rows::{first_row, is_sorted, row_before};
 use super::size::{
-    Measured, SUMS, add_capped, attribute_size, delimited_size, entries_size, own_size,
-    size_checked,
+    SUMS, add_capped, attribute_size, delimited_size, entries_size, own_size, size_checked,
 };
 use error_tree::refusal::ErrorRefusal;
 use error_tree::table::{ATTRIBUTE_ENTRY, ERROR_ENTRY};
@@ -19,10 +18,13 @@ use varint::write::{varint_size, write_varint};
 use word_write::write_bytes;
 use words::outcome::{NoRoom, Room};
 
+// An error by its number: all its attributes stand in the rows from..till, and they have so many bytes.
 #[derive(Clone, Copy)]
-pub enum Encoded {
-    Written(usize),
-    Refused(ErrorRefusal),
+struct Entry {
+    number: usize,
+    from: usize,
+    till: usize,
+    size: u64,
 }
 
 // A tag, and the varint behind it.
@@ -90,94 +92,73 @@ fn put_row(
     at + put_attribute(&mut out[at..], area, errors, attributes, k)
 }
 
-// The attributes of the error number `i`, which stand in the rows from..till.
+// An error's attributes.
 fn put_entries(
     out: &mut [u8],
     area: &[u8],
     errors: &[u64],
     attributes: &[u64],
-    i: usize,
-    from: usize,
-    till: usize,
+    entry: Entry,
 ) -> usize
-    requires { Sound area.now errors.now attributes.now × Covers attributes.now i from till
-        × (length (entries_bytes area.now attributes.now (all_rows attributes.now i)) ≤ length out.old) }
-    ensures { Puts (entries_bytes area.now attributes.now (all_rows attributes.now i))
+    requires { Sound area.now errors.now attributes.now
+        × Covers attributes.now entry.number entry.from entry.till
+        × (length (entries_bytes area.now attributes.now (all_rows attributes.now entry.number)) ≤ length out.old) }
+    ensures { Puts (entries_bytes area.now attributes.now (all_rows attributes.now entry.number))
         out.old out.new result }
 {
     let mut at = 0;
-    let mut k = from;
-    while k < till {
-        at += put_row(&mut out[at..], area, errors, attributes, i, k);
-        k += 1;
+    for k in entry.from..entry.till {
+        at += put_row(&mut out[at..], area, errors, attributes, entry.number, k);
     }
     at
 }
 
-// One dictionary if any; its attributes have so many bytes.
+// One dictionary if any.
 fn put_dictionary(
     out: &mut [u8],
     area: &[u8],
     errors: &[u64],
     attributes: &[u64],
-    i: usize,
-    from: usize,
-    till: usize,
-    entries: u64,
+    entry: Entry,
 ) -> usize
-    requires { Sound area.now errors.now attributes.now × Covers attributes.now i from till
-        × (entries ≡ length (entries_bytes area.now attributes.now (all_rows attributes.now i)))
-        × (length (dictionary_bytes (entries_bytes area.now attributes.now (all_rows attributes.now i)))
+    requires { Sound area.now errors.now attributes.now
+        × Covers attributes.now entry.number entry.from entry.till
+        × (entry.size
+        ≡ length (entries_bytes area.now attributes.now (all_rows attributes.now entry.number)))
+        × (length (dictionary_bytes (entries_bytes area.now attributes.now (all_rows attributes.now entry.number)))
         ≤ length out.old) }
     ensures { Puts
         (dictionary_bytes
-        (entries_bytes area.now attributes.now (all_rows attributes.now i)))
+        (entries_bytes area.now attributes.now (all_rows attributes.now entry.number)))
         out.old out.new result }
 {
-    if entries == 0 {
+    if entry.size == 0 {
         return 0;
     }
-    let at = put_lead(out, 0x1a, entries);
-    at + put_entries(&mut out[at..], area, errors, attributes, i, from, till)
+    let at = put_lead(out, 0x1a, entry.size);
+    at + put_entries(&mut out[at..], area, errors, attributes, entry)
 }
 
-// The error number `i` without its inner errors.
-fn put_own(
-    out: &mut [u8],
-    area: &[u8],
-    errors: &[u64],
-    attributes: &[u64],
-    i: usize,
-    from: usize,
-    till: usize,
-    entries: u64,
-) -> usize
-    requires { Sound area.now errors.now attributes.now × (i < errors_in errors.now)
-        × Covers attributes.now i from till
-        × (entries ≡ length (entries_bytes area.now attributes.now (all_rows attributes.now i)))
-        × (length (own_bytes area.now errors.now attributes.now i) ≤ length out.old) }
-    ensures { Puts (own_bytes area.now errors.now attributes.now i) out.old
+// An error without its inner errors.
+fn put_own(out: &mut [u8], area: &[u8], errors: &[u64], attributes: &[u64], entry: Entry) -> usize
+    requires { Sound area.now errors.now attributes.now × (entry.number < errors_in errors.now)
+        × Covers attributes.now entry.number entry.from entry.till
+        × (entry.size
+        ≡ length (entries_bytes area.now attributes.now (all_rows attributes.now entry.number)))
+        × (length (own_bytes area.now errors.now attributes.now entry.number) ≤ length out.old) }
+    ensures { Puts (own_bytes area.now errors.now attributes.now entry.number) out.old
         out.new result }
 {
-    let code = put_lead(out, 0x08, errors[ERROR_ENTRY * i]);
+    let code = put_lead(out, 0x08, errors[ERROR_ENTRY * entry.number]);
     let text = code
         + put_stretch(
             &mut out[code..],
             0x12,
             area,
-            errors[ERROR_ENTRY * i + 2],
-            errors[ERROR_ENTRY * i + 3],
+            errors[ERROR_ENTRY * entry.number + 2],
+            errors[ERROR_ENTRY * entry.number + 3],
         );
-    text + put_dictionary(
-        &mut out[text..],
-        area,
-        errors,
-        attributes,
-        i,
-        from,
-        till,
-        entries,
-    )
+    text + put_dictionary(&mut out[text..], area, errors, attributes, entry)
 }
 
 // An inner error as a field, its inner errors going behind: they and it have so many bytes.
@@ -186,30 +167,20 @@ fn put_inner(
     area: &[u8],
     errors: &[u64],
     attributes: &[u64],
-    i: usize,
-    from: usize,
-    till: usize,
-    entries: u64,
+    entry: Entry,
     body: u64,
 ) -> usize
-    requires { Sound area.now errors.now attributes.now × (i < errors_in errors.now)
-        × Covers attributes.now i from till
-        × (entries ≡ length (entries_bytes area.now attributes.now (all_rows attributes.now i)))
-        × (length (lead 0x22 body ++ own_bytes area.now errors.now attributes.now i) ≤ length out.old) }
-    ensures { Puts (lead 0x22 body ++ own_bytes area.now errors.now attributes.now i)
+    requires { Sound area.now errors.now attributes.now × (entry.number < errors_in errors.now)
+        × Covers attributes.now entry.number entry.from entry.till
+        × (entry.size
+        ≡ length (entries_bytes area.now attributes.now (all_rows attributes.now entry.number)))
+        × (length (lead 0x22 body ++ own_bytes area.now errors.now attributes.now entry.number)
+        ≤ length out.old) }
+    ensures { Puts (lead 0x22 body ++ own_bytes area.now errors.now attributes.now entry.number)
         out.old out.new result }
 {
     let at = put_lead(out, 0x22, body);
-    at + put_own(
-        &mut out[at..],
-        area,
-        errors,
-        attributes,
-        i,
-        from,
-        till,
-        entries,
-    )
+    at + put_own(&mut out[at..], area, errors, attributes, entry)
 }
 
 // The whole message over the front of `out`, which has the room: from the last entry to the first, as it is measured.
@@ -222,10 +193,8 @@ fn write_errors(out: &mut [u8], area: &[u8], errors: &[u64], attributes: &[u64],
     let sorted = is_sorted(attributes);
     let mut till = attributes.len() / ATTRIBUTE_ENTRY;
     let mut sums: [u64; SUMS] = [0; SUMS];
-    let mut i = errors.len() / ERROR_ENTRY;
     let mut at = total;
-    while 1 < i {
-        i -= 1;
+    for i in (1..errors.len() / ERROR_ENTRY).rev() {
         let from = first_row(attributes, sorted, i, till);
         let entries = entries_size(attributes, i, from, till);
         let own = own_size(errors, i, entries);
@@ -233,44 +202,46 @@ fn write_errors(out: &mut [u8], area: &[u8], errors: &[u64], attributes: &[u64],
         let body = add_capped(own, sums[depth + 1]);
         let size = 1 + varint_size(body) + (own as usize);
         at -= size;
-        put_inner(
-            &mut out[at..],
-            area,
-            errors,
-            attributes,
-            i,
+        let entry = Entry {
+            number: i,
             from,
             till,
-            entries,
-            body,
-        );
+            size: entries,
+        };
+        put_inner(&mut out[at..], area, errors, attributes, entry, body);
         till = row_before(sorted, from, till);
         let sum = add_capped(delimited_size(body), sums[depth]);
         sums[depth + 1] = 0;
         sums[depth] = sum;
     }
     let from = first_row(attributes, sorted, 0, till);
-    let entries = entries_size(attributes, 0, from, till);
-    put_own(out, area, errors, attributes, 0, from, till, entries);
+    let entry = Entry {
+        number: 0,
+        from,
+        till,
+        size: entries_size(attributes, 0, from, till),
+    };
+    put_own(out, area, errors, attributes, entry);
 }
 
-// Writes the tables as a TError; a refusal leaves the output as it was.
-pub fn encode_error(area: &[u8], errors: &[u64], attributes: &[u64], out: &mut [u8]) -> Encoded
+// Writes the tables as a TError and says how many bytes it has; a refusal leaves the output as it was.
+pub fn encode_error(
+    area: &[u8],
+    errors: &[u64],
+    attributes: &[u64],
+    out: &mut [u8],
+) -> Result<usize, ErrorRefusal>
     ensures { Encodes area.now errors.now attributes.now out.old result
         out.new }
 {
-    match size_checked(area, errors, attributes) {
-        Measured::Refused(refusal) => Encoded::Refused(refusal),
-        Measured::Size(count) => {
-            if (out.len() as u64) < count {
-                return Encoded::Refused(ErrorRefusal::NoRoom(NoRoom {
-                    room: Room::Output,
-                    needed: count,
-                    given: out.len() as u64,
-                }));
-            }
-            write_errors(out, area, errors, attributes, count as usize);
-            Encoded::Written(count as usize)
-        }
+    let count = size_checked(area, errors, attributes)?;
+    if (out.len() as u64) < count {
+        return Err(ErrorRefusal::NoRoom(NoRoom {
+            room: Room::Output,
+            needed: count,
+            given: out.len() as u64,
+        }));
     }
+    write_errors(out, area, errors, attributes, count as usize);
+    Ok(count as usize)
 }

@@ -19,48 +19,45 @@ use Rattle.field.specs.Stages.{ReadsPayload, ReadsFixed}
 use Rattle.field.specs.Statement.{ReadsField}
 use Rattle.field.specs.declared.field.Payload.{Payload}
 
-module _ (s : List ℕ) (at end : ℕ) (r : Option Varint) (reads : ReadsVarint s at end r) where
-  pub number_cut : r ≡ None → ReadsPayload 0 s at end None
+-- A payload that begins with a varint, where none is whole
+
+pub number_cut : (s : List ℕ) (at end : ℕ) → ReadsVarint s at end None → ReadsPayload 0 s at end None
+unfolding whole_payload
+number_cut s at end h = h
+
+pub bytes_cut : (s : List ℕ) (at end : ℕ) → ReadsVarint s at end None → ReadsPayload 2 s at end None
+unfolding whole_payload
+bytes_cut s at end h = rw h
+
+-- and where one is
+module _ (s : List ℕ) (at end : ℕ) (v : Varint) (reads : ReadsVarint s at end (Some v)) where
+  pub next_within : (at < v.next) × (v.next ≤ end) × (end ≤ length s)
+  next_within =
+      let far : (at < varint_end s at) × (varint_end s at ≤ end) × (end ≤ length s) = whole_end s at end reads.0 in
+      let there : v.next ≡ varint_end s at = reads.2 in
+      (omega arith, omega arith, omega arith)
+
+  pub number_held : ReadsPayload 0 s at end (Some record { value = v.value; content = v.next; stop = v.next })
+  unfolding whole_payload payload_value payload_content payload_stop
+  number_held =
+      let far : (at < v.next) × (v.next ≤ end) × (end ≤ length s) = next_within in
+      (reads.0, reads.1, reads.2, reads.2, omega arith, omega arith, omega arith)
+
+  pub bytes_long : end - v.next < v.value → ReadsPayload 2 s at end None
   unfolding whole_payload
-  number_cut e = rw e at reads
+  bytes_long h =
+      let number : v.value ≡ varint_at s at = reads.1 in
+      let there : v.next ≡ varint_end s at = reads.2 in
+      let far : (at < v.next) × (v.next ≤ end) × (end ≤ length s) = next_within in
+      rw (reads.0, le-ltb (varint_end s at + varint_at s at) (end + 1) (omega arith))
 
-  pub bytes_cut : r ≡ None → ReadsPayload 2 s at end None
-  unfolding whole_payload
-  bytes_cut e = let no : whole_varint s at end ≡ false = rw e at reads in rw no
-
-  module _ (value next : ℕ) (e : r ≡ Some record { value = value; next = next; }) where
-    is_whole : ReadsVarint s at end (Some record { value = value; next = next; })
-    is_whole = rw e at reads
-
-    pub next_within : (at < next) × (next ≤ end) × (end ≤ length s)
-    next_within =
-        let far : (at < varint_end s at) × (varint_end s at ≤ end) × (end ≤ length s) = whole_end s at end is_whole.0 in
-        let there : next ≡ varint_end s at = is_whole.2 in
-        (omega arith, omega arith, omega arith)
-
-    pub number_held : ReadsPayload 0 s at end (Some record { value = value; content = next; stop = next; })
-    unfolding whole_payload payload_value payload_content payload_stop
-    number_held =
-        let far : (at < next) × (next ≤ end) × (end ≤ length s) = next_within in
-        (is_whole.0, is_whole.1, is_whole.2, is_whole.2, omega arith, omega arith, omega arith)
-
-    pub bytes_long : end - next < value → ReadsPayload 2 s at end None
-    unfolding whole_payload
-    bytes_long h =
-        let yes : whole_varint s at end ≡ true = is_whole.0 in
-        let v : value ≡ varint_at s at = is_whole.1 in
-        let there : next ≡ varint_end s at = is_whole.2 in
-        let far : (at < next) × (next ≤ end) × (end ≤ length s) = next_within in
-        rw (yes, le-ltb (varint_end s at + varint_at s at) (end + 1) (omega arith))
-
-    pub bytes_held : value ≤ end - next → ReadsPayload 2 s at end (Some record { value = value; content = next; stop = (next + value); })
-    unfolding whole_payload payload_value payload_content payload_stop
-    bytes_held h =
-        let yes : whole_varint s at end ≡ true = is_whole.0 in
-        let v : value ≡ varint_at s at = is_whole.1 in
-        let there : next ≡ varint_end s at = is_whole.2 in
-        let far : (at < next) × (next ≤ end) × (end ≤ length s) = next_within in
-        (rw (yes, lt-ltb (varint_end s at + varint_at s at) (end + 1) (omega arith)), v, there, omega arith, omega arith, omega arith, omega arith)
+  pub bytes_held : v.value ≤ end - v.next → ReadsPayload 2 s at end (Some record { value = v.value; content = v.next; stop = (v.next + v.value) })
+  unfolding whole_payload payload_value payload_content payload_stop
+  bytes_held h =
+      let number : v.value ≡ varint_at s at = reads.1 in
+      let there : v.next ≡ varint_end s at = reads.2 in
+      let far : (at < v.next) × (v.next ≤ end) × (end ≤ length s) = next_within in
+      (rw (reads.0, lt-ltb (varint_end s at + varint_at s at) (end + 1) (omega arith)), number, there, omega arith, omega arith, omega arith, omega arith)
 
 -- the fixed sizes
 module _ (s : List ℕ) (at end : ℕ) (within : at ≤ end) where
@@ -74,62 +71,55 @@ module _ (s : List ℕ) (at end : ℕ) (within : at ≤ end) where
   short (Some p) f = (rw (lt-ltb (at + 4) (end + 1) (omega arith)), f.1, f.2, f.3, omega arith, omega arith, omega arith)
   short None f = rw (le-ltb (at + 4) (end + 1) (omega arith))
 
-pub of_type : (s : List ℕ) (at end : ℕ) {type : ℕ} (n : ℕ) (r : Option Payload) → type ≡ n → ReadsPayload n s at end r → ReadsPayload type s at end r
-of_type s at end n r e reads = rw e reads
-
-pub no_type : (s : List ℕ) (at end type : ℕ) → (type ≡ 0 → ⊥) → (type ≡ 2 → ⊥) → (type ≡ 1 → ⊥) → (type ≡ 5 → ⊥) → ReadsPayload type s at end None
+pub no_type : (s : List ℕ) (at end type : ℕ) → (type ≡ 0 → ⊥) → (type ≡ 1 → ⊥) → (type ≡ 2 → ⊥) → (type ≡ 5 → ⊥) → ReadsPayload type s at end None
 unfolding whole_payload
-no_type s at end type zero two one five = rw (ne_eqb type 0 zero, ne_eqb type 1 one, ne_eqb type 2 two, ne_eqb type 5 five)
+no_type s at end type zero one two five = rw (ne_eqb type 0 zero, ne_eqb type 1 one, ne_eqb type 2 two, ne_eqb type 5 five)
 
 -- The tag, then the payload
-module _ (s : List ℕ) (at end : ℕ) (r : Option Varint) (reads : ReadsVarint s at end r) where
-  pub tag_cut : r ≡ None → ReadsField s at end None
+
+pub tag_cut : (s : List ℕ) (at end : ℕ) → ReadsVarint s at end None → ReadsField s at end None
+unfolding whole_field
+tag_cut s at end h = rw h
+
+module _ (s : List ℕ) (at end : ℕ) (tag : Varint) (reads : ReadsVarint s at end (Some tag)) where
+  pub tag_large : 0xffff_ffff < tag.value → ReadsField s at end None
   unfolding whole_field
-  tag_cut e = let no : whole_varint s at end ≡ false = rw e at reads in rw no
+  tag_large h =
+      let v : tag.value ≡ varint_at s at = reads.1 in
+      rw (reads.0, le-ltb (tag_at s at) 0x1_0000_0000 (omega arith))
 
-  module _ (tag next : ℕ) (e : r ≡ Some record { value = tag; next = next; }) where
-    tag_whole : ReadsVarint s at end (Some record { value = tag; next = next; })
-    tag_whole = rw e at reads
-
-    pub tag_large : 0xffff_ffff < tag → ReadsField s at end None
+  module _ (low : tag.value ≤ 0xffff_ffff) where
+    pub tag_zero : tag.value < 8 → ReadsField s at end None
     unfolding whole_field
-    tag_large h =
-        let v : tag ≡ varint_at s at = tag_whole.1 in
-        rw (tag_whole.0, le-ltb (tag_at s at) 0x1_0000_0000 (omega arith))
+    tag_zero h =
+        let v : tag.value ≡ varint_at s at = reads.1 in
+        rw (reads.0, lt-ltb (tag_at s at) 0x1_0000_0000 (omega arith), le-ltb 7 (tag_at s at) (omega arith))
 
-    module _ (low : tag ≤ 0xffff_ffff) where
-      pub tag_zero : tag < 8 → ReadsField s at end None
+    module _ (some : 8 ≤ tag.value) where
+      pub field_cut : ReadsPayload (tag.value % 8) s tag.next end None → ReadsField s at end None
       unfolding whole_field
-      tag_zero h =
-          let v : tag ≡ varint_at s at = tag_whole.1 in
-          rw (tag_whole.0, lt-ltb (tag_at s at) 0x1_0000_0000 (omega arith), le-ltb 7 (tag_at s at) (omega arith))
+      field_cut h =
+          let v : tag.value ≡ varint_at s at = reads.1 in
+          let there : tag.next ≡ varint_end s at = reads.2 in
+          let cut : whole_payload (tag.value % 8) s tag.next end ≡ false = h in
+          rw (reads.0, lt-ltb (tag_at s at) 0x1_0000_0000 (omega arith), lt-ltb 7 (tag_at s at) (omega arith), ← v, ← there, cut)
 
-      module _ (some : 8 ≤ tag) (p : Option Payload) (held : ReadsPayload (tag % 8) s next end p) where
-        pub field_cut : p ≡ None → ReadsField s at end None
-        unfolding whole_field
-        field_cut q =
-            let v : tag ≡ varint_at s at = tag_whole.1 in
-            let there : next ≡ varint_end s at = tag_whole.2 in
-            let no : whole_payload (tag % 8) s next end ≡ false = rw q at held in
-            rw (tag_whole.0, lt-ltb (tag_at s at) 0x1_0000_0000 (omega arith), lt-ltb 7 (tag_at s at) (omega arith), ← v, ← there, no)
-
-        pub field_whole : (value content stop : ℕ) → p ≡ Some record { value = value; content = content; stop = stop; } → ReadsField s at end (Some record { number = tag / 8; wire = tag % 8; value = value; content = content; stop = stop; })
-        unfolding whole_field
-        field_whole value content stop q =
-            let v : tag ≡ varint_at s at = tag_whole.1 in
-            let there : next ≡ varint_end s at = tag_whole.2 in
-            let far : (at < next) × (next ≤ end) × (end ≤ length s) = next_within s at end r reads tag next e in
-            let all : ReadsPayload (tag % 8) s next end (Some record { value = value; content = content; stop = stop; }) = rw q at held in (
-              rw (tag_whole.0, lt-ltb (tag_at s at) 0x1_0000_0000 (omega arith), lt-ltb 7 (tag_at s at) (omega arith), ← v, ← there) all.0,
-              rw v,
-              rw v,
-              rw (← v, ← there) all.1,
-              rw (← v, ← there) all.2,
-              rw (← v, ← there) all.3,
-              omega arith,
-              omega arith,
-              omega arith,
-            )
+      pub field_whole : (p : Payload) → ReadsPayload (tag.value % 8) s tag.next end (Some p) → ReadsField s at end (Some record { number = tag.value / 8; wire = tag.value % 8; value = p.value; content = p.content; stop = p.stop })
+      unfolding whole_field
+      field_whole p all =
+          let v : tag.value ≡ varint_at s at = reads.1 in
+          let there : tag.next ≡ varint_end s at = reads.2 in
+          let far : (at < tag.next) × (tag.next ≤ end) × (end ≤ length s) = next_within s at end tag reads in (
+            rw (reads.0, lt-ltb (tag_at s at) 0x1_0000_0000 (omega arith), lt-ltb 7 (tag_at s at) (omega arith), ← v, ← there) all.0,
+            rw v,
+            rw v,
+            rw (← v, ← there) all.1,
+            rw (← v, ← there) all.2,
+            rw (← v, ← there) all.3,
+            omega arith,
+            omega arith,
+            omega arith,
+          )
 
 -- Every field has a byte at least, and a whole one begins before the end
 

@@ -57,7 +57,7 @@ module _ {s : List ℕ} {start at value weight left : ℕ} (r : Running s start 
   stops end there h = let one : 1 ≤ size_in (suc left) s at = size_least (suc left) s at in cut_off s start end there (omega (arith, r.ends))
 
   module _ (end byte : ℕ) (there : end ≤ length s) (more : at < end) (is : byte ≡ get_or s at 0) where
-    pub last_whole : byte < 128 → value + weight * byte < 0x1_0000_0000_0000_0000 → ReadsVarint s start end (Some record { value = value + weight * byte; next = at + 1; })
+    pub last_whole : byte < 128 → value + weight * byte < 0x1_0000_0000_0000_0000 → ReadsVarint s start end (Some record { value = value + weight * byte; next = at + 1 })
     last_whole h fits =
         let b : get_or s at 0 < 128 = rw is at h in
         let one : size_in (suc left) s at ≡ 1 = size_last left s at b in

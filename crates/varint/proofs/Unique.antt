@@ -1,7 +1,7 @@
 -- One result for each statement: two results, or two results with their exits, that meet a public function's statement are equal.
 -- Assumes nothing.
 use mathlib.Core.Path.{sym, ◌∙◌}
-use mathlib.Core.Bool.{true, false, true≢false}
+use mathlib.Core.Bool.{true≢false}
 use mathlib.Core.List.{List}
 use Prim.Native.Nat.{ℕ}
 use lib.ListN.{length}
@@ -13,7 +13,7 @@ use Rattle.std.specs.declared.option.Option.TheVariants.{Some, None}
 
 pub read_varint_unique : (s : List ℕ) (at end : ℕ) → OneResult (ReadsVarint s at end)
 read_varint_unique s at end (Some v) (Some v') p q =
-    λ i. Some record { value = (p.1 ∙ sym q.1) i; next = (p.2 ∙ sym q.2) i; }
+    λ i. Some record { value = (p.1 ∙ sym q.1) i; next = (p.2 ∙ sym q.2) i }
 read_varint_unique s at end (Some v) None p q = absurd (true≢false (sym p.0 ∙ q))
 read_varint_unique s at end None (Some v) p q = absurd (true≢false (sym q.0 ∙ p))
 read_varint_unique s at end None None p q = λ i. None

@@ -9,7 +9,8 @@ use lib.ListN.{length, set, length-append}
 use Rattle.words.specs.Buffer.{fitted}
 use Rattle.words.specs.Stages.{Filling}
 use Rattle.words.specs.Decide.{◌<?◌}
-use Rattle.words.proofs.DecideLaws.{pick_case}
+use Rattle.words.proofs.DecideLaws.{pick_case, le_or_gt}
+use mathlib.Core.Logic.{⊎_elim}
 use Rattle.words.proofs.FillingLaws.{room_left, length_now, ends}
 use Rattle.words.proofs.BufferLaws.{over_store, fitted_fits}
 use Rattle.varint.specs.Varint.{groups, varint}
@@ -25,6 +26,9 @@ groups_more k n h = rw (le-ltb n 128 h)
 groups_some : (k n : ℕ) → 1 ≤ length (groups (suc k) n)
 unfolding groups
 groups_some k n = pick_case (n <? 128) (n ∷ []) ((n % 128 + 128) ∷ groups k (n / 128)) (λ (ws : List ℕ). 1 ≤ length ws) (λ e. omega arith) (λ e. omega arith)
+
+pub varint_some : (n : ℕ) → 1 ≤ length (varint n)
+varint_some n = groups_some 9 n
 
 pub length_groups : (k n : ℕ) → length (groups (suc k) n) ≤ suc k
 unfolding groups
@@ -70,6 +74,21 @@ module _ {n rest i : ℕ} (r : Shrinking n rest i) where
         let more : groups (10 - i) rest ≡ (rest % 128 + 128) ∷ groups (10 - (i + 1)) (rest / 128) = rw one_less (groups_more (10 - (i + 1)) rest low) in
         let size : i + suc (length (groups (10 - (i + 1)) (rest / 128))) ≡ length (varint n) = rw more at r.size in
         record { few = further; within = shrinks (10 - (i + 1)) rest (rw one_less at r.within); size = omega arith }
+
+  -- how many groups are still to come says whether this is the last
+  pub more_left : i + 1 < length (varint n) → 128 ≤ rest
+  more_left h =
+      ⊎_elim (λ (high : 128 ≤ rest). high) (λ (low : rest < 128). let last : i + 1 ≡ length (varint n) = size_end low in absurd (omega arith)) (le_or_gt 128 rest)
+
+  pub last_left : i + 1 ≡ length (varint n) → rest < 128
+  last_left e =
+      ⊎_elim
+      (λ (high : 128 ≤ rest).
+      let next : Shrinking n (rest / 128) (i + 1) = shrinks_on high in
+      let one : 10 - (i + 1) ≡ suc (10 - (i + 1 + 1)) = omega (arith, next.few) in
+      let some : 1 ≤ length (groups (10 - (i + 1)) (rest / 128)) = rw one (groups_some (10 - (i + 1 + 1)) (rest / 128)) in
+      absurd (omega (arith, next.size)))
+      (λ (low : rest < 128). low) (le_or_gt 128 rest)
 
 -- writing: the same, over the lent part
 module _ {n rest i : ℕ} {before now : List ℕ} (r : Shrinking n rest i) (f : Filling (varint n) (groups (10 - i) rest) before now i) where

@@ -25,8 +25,7 @@ fn read_within(input: &[u8], start: usize, end: usize) -> Option<Varint>
     let mut at = start;
     let mut value: u64 = 0;
     let mut weight: u64 = 1;
-    let mut left: usize = 9;
-    while 0 < left {
+    for _ in 0..9usize {
         if end <= at {
             return None;
         }
@@ -40,7 +39,6 @@ fn read_within(input: &[u8], start: usize, end: usize) -> Option<Varint>
         value += weight * (byte - 128);
         weight *= 128;
         at += 1;
-        left -= 1;
     }
     if end <= at {
         return None;

@@ -5,6 +5,7 @@ ghost use Rattle.varint.specs.Statement.{SizesVarint, WritesVarint};
 pub fn varint_size(n: u64) -> usize
     ensures { SizesVarint n result }
 {
+    // The loop ends by what is left, so no range says how often it runs.
     let mut rest = n;
     let mut i = 0;
     while 128 <= rest {
@@ -23,12 +24,10 @@ pub fn write_varint(out: &mut [u8], n: u64) -> usize
         return size;
     }
     let mut rest = n;
-    let mut i = 0;
-    while 128 <= rest {
+    for i in 0..size - 1 {
         out[i] = (rest % 128 + 128) as u8;
         rest /= 128;
-        i += 1;
     }
-    out[i] = rest as u8;
+    out[size - 1] = rest as u8;
     size
 }

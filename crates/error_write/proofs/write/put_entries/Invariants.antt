@@ -1,0 +1,6 @@
+-- The bytes of the rows passed stand in front. Assumes nothing.
+use Rattle.error_write.proofs.PutLaws.{Putting}
+use Rattle.error_write.proofs.write.put_entries.Given as goal
+
+abbrev pub invariant-loop-k : goal.invariant-loop-k
+invariant-loop-k l = Putting l.area l.attributes l.entry.number l.entry.from l.entry.till l.initial.out l.out l.at l.k
