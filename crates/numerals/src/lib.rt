@@ -16,6 +16,7 @@ pub fn hex_size(word: u32) -> usize
     if count == 0 { 1 } else { count as usize }
 }
 
+#[tactic(auto, unfolding(words::specs::Text::digit))]
 fn digit(value: u64) -> u8
     requires { value < 16 }
     ensures { result ≡ digit value }
@@ -78,6 +79,7 @@ pub fn write_decimal(out: &mut [u8], number: u64) -> usize
 
 // The value of a hex digit in either case, 16 for any other byte. A `match` on the byte compiles to a read-only table,
 // where comparisons would be branches that no processor foresees.
+#[tactic(auto, unfolding(words::specs::Text::digit_of))]
 pub fn digit_value(byte: u8) -> u32
     ensures { ValueOf byte result }
 {
