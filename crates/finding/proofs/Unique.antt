@@ -9,7 +9,7 @@ use Rattle.words.specs.Note.{Told, number, one_of}
 use Rattle.words.specs.Note as Note
 use Rattle.words.specs.Statement.{OneResult}
 use Rattle.words.specs.Text.{text}
-use Rattle.finding.specs.Saying.{Saying, fine, waiting, refusing, breaking, explain}
+use Rattle.finding.specs.Saying.{Saying, fine, waiting, refusing, breaking}
 use Rattle.finding.specs.Meaning.{name_of, wanted_of, meaning, Explains}
 use Rattle.words.proofs.Unique.{equal_to_one}
 use Rattle.finding.specs.Words.{field_number, words_of, NumbersField, TellsFinding}

@@ -69,7 +69,7 @@ pub enum Finding {
     },
 }
 
-// A field by its number, for callers in other languages.
+// A field by its number, for callers in other languages. A function and no `From`: `field_number_unique` names it.
 pub fn field_number(field: Field) -> u64
     ensures { NumbersField field result }
 {
@@ -125,7 +125,8 @@ fn words(kind: u64, number: u64, v0: u64, v1: u64, v2: u64, v3: u64, v4: u64) ->
 }
 
 // A finding as an outcome: its kind, a refusal's number, and in the values the field's number, its offset (of need-more
-// the length), what was found, what was wanted, and whether that is a number or a list of types.
+// the length), what was found, what was wanted, and whether that is a number or a list of types. A function and no
+// `From`: the exports of `face_why` call it by its name.
 pub fn outcome(finding: Finding) -> Outcome
     ensures { TellsFinding finding result }
 {

@@ -4,35 +4,26 @@
 
 ghost use Rattle.input.specs.Statement.{Inside, ReadsWhole};
 
-use std::io::Read;
+use std::io::{self, Read};
 
-// What `read_whole` answers: how many bytes it put at the buffer's front, or that a read failed.
-#[derive(Clone, Copy)]
-pub enum Input {
-    Bytes(usize),
-    Failed,
-}
-
-// Reads until the input ends or the buffer is full.
-pub fn read_whole<R: Read>(reader: &mut R, buffer: &mut [u8]) -> Input
+// Reads until the input ends or the buffer is full, and says how many bytes it put at the buffer's front.
+pub fn read_whole<R: Read>(reader: &mut R, buffer: &mut [u8]) -> io::Result<usize>
     ensures inside { Inside buffer.new result }
     ensures whole { ReadsWhole (R.remaining reader.old) buffer.new result }
 {
     let mut done = 0;
     while done < buffer.len() {
-        match reader.read(&mut buffer[done..]) {
-            Ok(0) => return Input::Bytes(done),
-            Ok(more) => done += more,
-            Err(_) => return Input::Failed,
+        match reader.read(&mut buffer[done..])? {
+            0 => return Ok(done),
+            more => done += more,
         }
     }
-    Input::Bytes(done)
+    Ok(done)
 }
 
 #[cfg(test)]
 mod tests {
     use super::*;
-    use std::io;
 
     // Gives one byte, and then fails.
     #[derive(Drop)]
@@ -52,10 +43,10 @@ mod tests {
     }
 
     // The bytes told, or `None` where a read failed.
-    fn told<'a>(answer: Input, buffer: &'a [u8]) -> Option<&'a [u8]> {
+    fn told<'a>(answer: io::Result<usize>, buffer: &'a [u8]) -> Option<&'a [u8]> {
         match answer {
-            Input::Bytes(count) => buffer.get(..count),
-            Input::Failed => None,
+            Ok(count) => buffer.get(..count),
+            Err(_) => None,
         }
     }
 

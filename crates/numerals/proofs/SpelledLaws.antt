@@ -12,8 +12,8 @@ use lib.ListN.{length, set, drop, length-append, length-set}
 use lib.Seq.{drop-cons, get_or-set_same, drop-set-lt, append_snoc}
 use Rattle.words.specs.Buffer.{over, fitted}
 use Rattle.words.specs.Text.{digit, spelled}
-use Rattle.words.proofs.BufferLaws.{fitted_fits, fitted_short}
-use Rattle.numerals.specs.Statement.{hex, decimal, Writes}
+use Rattle.words.proofs.BufferLaws.{fitted_fits}
+use Rattle.numerals.specs.Statement.{hex, decimal}
 use Rattle.numerals.proofs.Cases.{lt_or_le}
 
 -- the shapes of a spelling

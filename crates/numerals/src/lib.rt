@@ -16,6 +16,7 @@ pub fn hex_size(word: u32) -> usize
     if count == 0 { 1 } else { count as usize }
 }
 
+#[tactic(auto, unfolding(words::specs::Text::digit))]
 fn digit(value: u64) -> u8
     requires { value < 16 }
     ensures { result ≡ digit value }
@@ -27,22 +28,33 @@ fn digit(value: u64) -> u8
     }
 }
 
-// The word in hex, and how many digits that is.
-pub fn write_hex(out: &mut [u8], word: u32) -> usize
-    ensures { Writes (hex word) out.old result out.new }
+// A number in a base, whose digits are at most `MOST` and of which there are `count`, and how many that is.
+fn write_digits<const BASE: u64, const MOST: usize>(
+    out: &mut [u8],
+    number: u64,
+    count: usize,
+) -> usize
+    requires { (1 < BASE) × (BASE ≤ 16) × (number < BASE ^ MOST) × (count ≡ length (spelled BASE MOST number)) }
+    ensures { Writes (spelled BASE MOST number) out.old result out.new }
 {
-    let count = hex_size(word);
     if out.len() < count {
         return count;
     }
     let mut left = count;
-    let mut rest = word;
+    let mut rest = number;
     while 0 < left {
         left -= 1;
-        out[left] = digit((rest % 16) as u64);
-        rest = rest / 16;
+        out[left] = digit(rest % BASE);
+        rest /= BASE;
     }
     count
+}
+
+// The word in hex, and how many digits that is.
+pub fn write_hex(out: &mut [u8], word: u32) -> usize
+    ensures { Writes (hex word) out.old result out.new }
+{
+    write_digits::<16, 8>(out, word as u64, hex_size(word))
 }
 
 // How many decimal digits a number has.
@@ -62,22 +74,12 @@ pub fn decimal_size(number: u64) -> usize
 pub fn write_decimal(out: &mut [u8], number: u64) -> usize
     ensures { Writes (decimal number) out.old result out.new }
 {
-    let count = decimal_size(number);
-    if out.len() < count {
-        return count;
-    }
-    let mut left = count;
-    let mut rest = number;
-    while 0 < left {
-        left -= 1;
-        out[left] = digit(rest % 10);
-        rest = rest / 10;
-    }
-    count
+    write_digits::<10, 20>(out, number, decimal_size(number))
 }
 
 // The value of a hex digit in either case, 16 for any other byte. A `match` on the byte compiles to a read-only table,
 // where comparisons would be branches that no processor foresees.
+#[tactic(auto, unfolding(words::specs::Text::digit_of))]
 pub fn digit_value(byte: u8) -> u32
     ensures { ValueOf byte result }
 {

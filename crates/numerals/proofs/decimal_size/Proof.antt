@@ -1,11 +1,6 @@
 -- `decimal_size` meets its contract. The invariant: what is counted and what the rest has make the number's digits.
 -- Assumes nothing.
-use mathlib.Core.Path.{◌≡◌, ap, sym, ◌∙◌}
-use Prim.Native.Nat.{ℕ, suc, ◌+◌, ◌-◌, ◌^◌, ◌<◌, ◌≤◌}
 use native.Mathlib.Omega.{arith}
-use lib.ListN.{length}
-use Rattle.words.specs.Text.{spelled}
-use Rattle.numerals.specs.Statement.{decimal}
 use Rattle.numerals.proofs.SpelledLaws.{Counted, counting, counted_more, counted_all}
 use borrow.Author.Rules.{rules}
 use Rattle.numerals.proofs.decimal_size.Statement.{statement}
