@@ -7,16 +7,17 @@ ghost use Rattle.wire_read.specs.Paper.{paper_decoded};
 ghost use Rattle.wire_read.specs.Statement.{TellsPlain};
 ghost use Rattle.face_rowsets.specs.Statement.{DecodesRowset, EncodesRowset, MeasuresRowset, ReadsValue, PacksArea};
 
+use wire::error::WireError;
 use wire_read::rowset::Decoded;
 use words::outcome::{Outcome, taken};
 
 // How many rows and values were read, or the refusal, as document 01's number and values.
-fn decoded_outcome(answer: Decoded) -> Outcome
+fn decoded_outcome(answer: Result<Decoded, WireError>) -> Outcome
     ensures { Tells (paper_decoded answer) result }
 {
     match answer {
-        Decoded::Read { rows, values } => taken(0, rows as u64, values as u64, 0),
-        Decoded::Refused(error) => wire::error::outcome(error),
+        Ok(Decoded { rows, values }) => taken(0, rows as u64, values as u64, 0),
+        Err(error) => Outcome::from(error),
     }
 }
 

@@ -14,7 +14,7 @@ use Rattle.pack_pairs.specs.Packing.{capped}
 use Rattle.pack_pairs.specs.Stages.{needed, packed, packed_bytes, Inside}
 use Rattle.pack_pairs.proofs.RuleLaws.{good_inside}
 use Rattle.pack_answer.specs.Statement.{Packs}
-use Rattle.pack_answer.specs.declared.answer.Packed.TheVariants.{Filled, Refused}
+use Rattle.std.specs.declared.result.Result.TheVariants.{Ok, Err}
 use Rattle.pack_answer.proofs.AnswerLaws as answer
 use Rattle.pack_links.specs.Statement.{plain}
 use Rattle.pack_links.specs.Stages.{Spare, Linking, Movable}
@@ -38,7 +38,7 @@ module _ (area values : List ℕ) (checked : Checked area values) where
     back = plain_is values t linked.1.over
 
     pub refused : length out < sum → (u : List ℕ) → u ≡ plain t
-        → Packs area values out (Refused (NoRoom (record { room = Output; needed = sum; given = length out }))) u out
+        → Packs area values out (Err (NoRoom (record { room = Output; needed = sum; given = length out }))) u out
     refused h u e = rw (e, back) (answer.short area values out checked.0 (first_bad (length area) values) refl checked.1 sum linked.0 h)
 
     module _ (fits : sum ≤ length out) (small : length out < 2 ^ 63) where
@@ -52,7 +52,7 @@ module _ (area values : List ℕ) (checked : Checked area values) where
       copy_requires = (movable, (rw back (good_inside area values checked.0 good), rw back (omega (arith, sum_is))))
 
       pub done : (v out' : List ℕ) → v ≡ packed (plain t) → out' ≡ over (packed_bytes area (plain t) (entries_in (plain t))) out
-          → Packs area values out (Filled sum) v out'
+          → Packs area values out (Ok sum) v out'
       done v out' moved copied =
           answer.filled area values out checked.0 (first_bad (length area) values) refl checked.1 sum linked.0 fits small v out'
           (moved ∙ ap packed back) (copied ∙ ap (λ (l : List ℕ). over (packed_bytes area l (entries_in l)) out) back)

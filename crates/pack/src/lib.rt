@@ -12,7 +12,6 @@ ghost use Rattle.pack_answer.specs.Statement.{Packs};
 ghost use Rattle.pack_links.specs.Statement.{plain};
 ghost use Rattle.pack_links.specs.Stages.{link, settled, linked_to, word_for, room_for, Movable, Climbs, Finds, Looks, bucket, Spare, Linking};
 
-use pack_answer::answer::Packed;
 use pack_answer::entry::{add_capped, cut, is_blob, is_stored};
 use pack_links::{LINK, Place, unlink_all};
 use pack_plain::pack_plain;
@@ -74,8 +73,8 @@ fn bucket_word(offset: u64, length: u64, size: usize) -> usize
     ENTRY_WORDS * ((block + offset / 16 + length % BLOCK) % (size as u64)) as usize
 }
 
-// Where the entry i belongs.
-fn look(values: &[u64], i: usize) -> Place
+// Where the pair of the entry i belongs, if it stores one.
+fn look(values: &[u64], i: usize) -> Option<Place>
     requires { (entry_words * i + entry_words ≤ length values.now) × (length values.now < 2 ^ 48)
         × Climbs values.now }
     ensures { Looks values.now i result }
@@ -89,9 +88,9 @@ fn look(values: &[u64], i: usize) -> Place
             values[ENTRY_WORDS * i + 4],
             values.len() / ENTRY_WORDS,
         );
-        return find(values, i, head);
+        return Some(find(values, i, head));
     }
-    Place::Nowhere
+    None
 }
 
 // Links the entry k over the word s, which has no link.
@@ -110,20 +109,13 @@ fn link_all(values: &mut [u64]) -> u64
 {
     let size = values.len() / ENTRY_WORDS;
     let mut sum = 0;
-    let mut i = 0;
-    while i < size {
+    for i in 0..size {
         match look(values, i) {
-            Place::Nowhere => {
-                i += 1;
-            }
-            Place::Known(j) => {
-                put_link(values, ENTRY_WORDS * i + 1, j);
-                i += 1;
-            }
-            Place::Free(s) => {
+            None => {}
+            Some(Place::Known(j)) => put_link(values, ENTRY_WORDS * i + 1, j),
+            Some(Place::Free(s)) => {
                 put_link(values, s, i);
                 sum = add_capped(sum, values[ENTRY_WORDS * i + 4]);
-                i += 1;
             }
         }
     }
@@ -195,13 +187,11 @@ fn move_all(values: &mut [u64])
 {
     let size = values.len() / ENTRY_WORDS;
     let mut at = 0;
-    let mut i = 0;
-    while i < size {
+    for i in 0..size {
         let next = next_at(values, i, at);
         let word = new_word(values, i, at);
         settle(values, i, word);
         at = next;
-        i += 1;
     }
 }
 
@@ -216,18 +206,16 @@ fn copy_all(area: &[u8], values: &[u64], out: &mut [u8])
 {
     let size = values.len() / ENTRY_WORDS;
     let mut at = 0;
-    let mut i = 0;
-    while i < size {
+    for i in 0..size {
         let next = next_at(values, i, at as u64) as usize;
         let bytes = cut(area, values[ENTRY_WORDS * i + 3], (next - at) as u64);
         write_bytes(&mut out[at..], bytes);
         at = next;
-        i += 1;
     }
 }
 
 // A table of so few words that passed rules 1 and 3.
-fn pack_linked(area: &[u8], values: &mut [u64], out: &mut [u8]) -> Packed
+fn pack_linked(area: &[u8], values: &mut [u64], out: &mut [u8]) -> Result<u64, WireError>
     requires { (length values.old % entry_words ≡ 0)
         × (entries_in values.old ≤ first_bad (length area.now) values.old)
         × (length values.old < 2 ^ 48) }
@@ -237,7 +225,7 @@ fn pack_linked(area: &[u8], values: &mut [u64], out: &mut [u8]) -> Packed
     let sum = link_all(values);
     if (out.len() as u64) < sum {
         unlink_all(values);
-        return Packed::Refused(WireError::NoRoom(NoRoom {
+        return Err(WireError::NoRoom(NoRoom {
             room: Room::Output,
             needed: sum,
             given: out.len() as u64,
@@ -245,12 +233,12 @@ fn pack_linked(area: &[u8], values: &mut [u64], out: &mut [u8]) -> Packed
     }
     copy_all(area, values, out);
     move_all(values);
-    Packed::Filled(sum)
+    Ok(sum)
 }
 
 // Packs the byte area behind a value table into a second one; a refusal leaves the table and the second area as they
 // were.
-pub fn pack(area: &[u8], values: &mut [u64], out: &mut [u8]) -> Packed
+pub fn pack(area: &[u8], values: &mut [u64], out: &mut [u8]) -> Result<u64, WireError>
     ensures { Packs area.now values.old out.old result values.new
         out.new }
 {
@@ -259,14 +247,14 @@ pub fn pack(area: &[u8], values: &mut [u64], out: &mut [u8]) -> Packed
     }
     let entries = values.len() / ENTRY_WORDS;
     if values.len() % ENTRY_WORDS != 0 {
-        return Packed::Refused(WireError::BadTable {
+        return Err(WireError::BadTable {
             rule: 1,
             position: entries,
         });
     }
     let bad = first_bad(area, values);
     if bad < entries {
-        return Packed::Refused(WireError::BadTable {
+        return Err(WireError::BadTable {
             rule: 3,
             position: bad,
         });

@@ -1,6 +1,6 @@
 -- One result for each statement: two results, and two exits, that meet a public function's statement are equal.
 -- Assumes nothing.
-use mathlib.Core.Path.{◌≡◌, refl, sym, ◌∙◌, ap}
+use mathlib.Core.Path.{◌≡◌, refl}
 use mathlib.Core.Bool.{◌&&◌}
 use mathlib.Core.List.{List}
 use Prim.Native.Nat.{ℕ, ◌+◌}
@@ -16,18 +16,19 @@ use Rattle.wire.proofs.PaperLaws.{refusal_back, refusal_back_lem}
 use Rattle.pack_pairs.specs.Packing.{capped, packing, packed_table, packed_area}
 use Rattle.pack_answer.specs.Paper.{paper_packed}
 use Rattle.pack_answer.specs.Statement.{Packs, IsBlob, IsStored, CutIs, AddsCapped}
-use Rattle.pack_answer.specs.declared.answer.Packed.{Packed}
-use Rattle.pack_answer.specs.declared.answer.Packed.TheVariants.{Filled, Refused}
+use Rattle.wire.specs.declared.error.WireError.{WireError}
+use Rattle.std.specs.declared.result.Result.{Result}
+use Rattle.std.specs.declared.result.Result.TheVariants.{Ok, Err}
 
-abbrev packed_of : Answer → Packed
-packed_of a = refusal_back (λ n fields. Filled n) Refused a
+abbrev packed_of : Answer → Result ℕ WireError
+packed_of a = refusal_back (λ n fields. Ok n) Err a
 
-packed_back : (r : Packed) → packed_of (paper_packed r) ≡ r
-packed_back (Filled n) = refl
-packed_back (Refused refusal) = refusal_back_lem (λ n fields. Filled n) Refused refusal
+packed_back : (r : Result ℕ WireError) → packed_of (paper_packed r) ≡ r
+packed_back (Ok n) = refl
+packed_back (Err refusal) = refusal_back_lem (λ n fields. Ok n) Err refusal
 
 -- the answer, the table and the second area at exit
-pub packs_unique : (area values out : List ℕ) → OneResult (λ (x : Packed × List ℕ × List ℕ). Packs area values out x.0 x.1 x.2)
+pub packs_unique : (area values out : List ℕ) → OneResult (λ (x : Result ℕ WireError × List ℕ × List ℕ). Packs area values out x.0 x.1 x.2)
 packs_unique area values out x x' p q =
     let answer : Answer = packing area values (length out) in
     let first : x.0 ≡ x'.0 = means_one paper_packed packed_of packed_back answer x.0 x'.0 p.0 q.0 in
@@ -35,7 +36,7 @@ packs_unique area values out x x' p q =
     let third : x.2 ≡ x'.2 = holds_one answer (packed_area area values) out x.2 x'.2 p.2 q.2 in
     λ i. (first i, second i, third i)
 
-pub outcome_unique : (answer : Packed) → OneResult (Tells (paper_packed answer))
+pub outcome_unique : (answer : Result ℕ WireError) → OneResult (Tells (paper_packed answer))
 outcome_unique answer = equal_to_one (outcome (paper_packed answer))
 
 pub is_blob_unique : (type : ℕ) → OneResult (IsBlob type)

@@ -1,10 +1,9 @@
--- Document 01's answer for each case of `Packed`. Assumes nothing.
-use Rattle.std.specs.Prelude.{[]}
+-- Document 01's answer for the bytes filled or a refusal. Assumes nothing.
+use Rattle.std.specs.Prelude.{ℕ, [], Result, Ok, Err}
 use Rattle.words.specs.Answer.{Answer, accepted}
 use Rattle.wire.specs.Paper.{paper}
-use Rattle.pack_answer.specs.declared.answer.Packed.{Packed}
-use Rattle.pack_answer.specs.declared.answer.Packed.TheVariants.{Filled, Refused}
+use Rattle.wire.specs.declared.error.WireError.{WireError}
 
-abbrev pub paper_packed : Packed → Answer
-paper_packed (Filled n) = accepted n []
-paper_packed (Refused refusal) = paper refusal
+abbrev pub paper_packed : Result ℕ WireError → Answer
+paper_packed (Ok n) = accepted n []
+paper_packed (Err refusal) = paper refusal

@@ -1,16 +1,16 @@
 -- What the public functions of packing promise, by name. (The map of answers promises words' `Tells` of
 -- `paper_packed`.) Assumes nothing.
-use Rattle.std.specs.Prelude.{ℕ, ◌+◌, ◌≡◌, Bool, ◌&&◌, List, length}
+use Rattle.std.specs.Prelude.{ℕ, ◌+◌, ◌≡◌, Bool, ◌&&◌, List, length, Result}
 use Rattle.words.specs.Buffer.{stretch}
 use Rattle.words.specs.Decide.{◌<?◌}
 use Rattle.words.specs.Statement.{Means, Holds}
 use Rattle.wire.specs.Layout.{blob}
 use Rattle.pack_pairs.specs.Packing.{capped, packing, packed_table, packed_area}
 use Rattle.pack_answer.specs.Paper.{paper_packed}
-use Rattle.pack_answer.specs.declared.answer.Packed.{Packed}
+use Rattle.wire.specs.declared.error.WireError.{WireError}
 
 -- lent a table that held `values` and holds `values'`, and a second area that held `out` and holds `out'`
-abbrev pub Packs : List ℕ → List ℕ → List ℕ → Packed → List ℕ → List ℕ → Type 0
+abbrev pub Packs : List ℕ → List ℕ → List ℕ → Result ℕ WireError → List ℕ → List ℕ → Type 0
 Packs area values out r values' out' =
     let answer = packing area values (length out) in
     Means paper_packed answer r × Holds answer (packed_table values) values values'

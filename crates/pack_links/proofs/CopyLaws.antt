@@ -1,22 +1,18 @@
 -- The walk that copies the bytes of each first use. Assumes nothing.
 use mathlib.Core.Path.{◌≡◌, refl, sym, ◌∙◌, ap}
-use mathlib.Core.Bool.{Bool, true, false, ◌&&◌, true≢false}
-use mathlib.Core.List.{List, [], ◌++◌}
-use Prim.Native.Nat.{ℕ, zero, suc, ◌+◌, ◌*◌, ◌-◌, ◌/◌, ◌^◌, ◌<◌, ◌≤◌}
+use mathlib.Core.List.{List}
+use Prim.Native.Nat.{ℕ, ◌+◌, ◌*◌, ◌-◌, ◌^◌, ◌<◌, ◌≤◌}
 use native.Mathlib.Numerals.{add-one}
 use native.Mathlib.Omega.{arith}
-use lib.ListN.{length, get_or, take, drop, length-append, length-drop}
-use lib.Seq.{length-take-le}
+use lib.ListN.{length}
 use borrow.Rule.Slice.PartMut.{mid_of, put_mid}
-use Rattle.words.specs.Decide.{pick}
 use Rattle.words.specs.Buffer.{stretch, over, fitted}
 use Rattle.words.proofs.BufferLaws.{length_over}
 use Rattle.words.proofs.LentLaws.{lent_fitted}
-use Rattle.pack_pairs.specs.Pairs.{offset_at, length_at, stored}
-use Rattle.pack_pairs.specs.Stages.{first_use, is_new, room_of, room, packed_bytes, needed, Inside}
+use Rattle.pack_pairs.specs.Pairs.{offset_at}
+use Rattle.pack_pairs.specs.Stages.{room_of, room, packed_bytes, needed, Inside}
 use Rattle.wire_check.specs.Writing.{entries_in}
 use Rattle.pack_links.specs.Stages.{room_for, Movable}
-use Rattle.pack_pairs.proofs.UseLaws.{both_true}
 use Rattle.pack_links.proofs.MoveLaws.{offset_is, room_for_is, room_next}
 use Rattle.pack_pairs.proofs.RoomLaws.{room_grows, length_stretch, room_inside, length_bytes}
 use Rattle.wire.specs.Layout.{entry_words}

@@ -1,21 +1,18 @@
 -- A search along the links: each step keeps what is sought ahead, and where it ends it is found or nowhere. Assumes
 -- nothing.
-use mathlib.Core.Path.{◌≡◌, refl, sym, ◌∙◌, ap}
-use mathlib.Core.Bool.{Bool, true, false, ◌&&◌, true≢false}
-use mathlib.Core.Logic.{◌⊎◌, inl, inr}
+use mathlib.Core.Path.{◌≡◌, sym, ◌∙◌}
+use mathlib.Core.Bool.{true, false, true≢false}
+use mathlib.Core.Logic.{inl, inr}
 use mathlib.Core.List.{List}
 use Prim.Native.Nat.{ℕ, zero, suc, ◌+◌, ◌*◌, ◌-◌, ◌/◌, ◌%◌, ◌<◌, ◌≤◌}
 use native.Mathlib.Omega.{arith}
-use lib.Dec.{ltb, eqb}
-use lib.ListN.{length, get_or}
-use borrow.Author.Tests.{eq-eqb, ne_eqb, eqb-true}
+use lib.ListN.{length}
+use borrow.Author.Tests.{ne_eqb}
 use Rattle.words.specs.Decide.{pick, ◌=?◌}
 use Rattle.pack_pairs.specs.Pairs.{offset_at, length_at}
 use Rattle.pack_pairs.specs.Stages.{same}
 use Rattle.pack_pairs.proofs.UseLaws.{same_alike, alike_same}
-use Rattle.pack_links.specs.Stages.{link, behind, Leads, Reaches, here, onward, Linked, Climbs, Grows, Comes, Sought, Ends, Finds}
-use Rattle.pack_pairs.specs.Stages.{Alike}
-use Rattle.pack_links.specs.declared.Place.{Place}
+use Rattle.pack_links.specs.Stages.{link, behind, Leads, here, onward, Linked, Climbs, Sought, Finds}
 use Rattle.pack_links.specs.declared.Place.TheVariants.{Known, Free}
 use Rattle.wire.specs.Layout.{entry_words}
 

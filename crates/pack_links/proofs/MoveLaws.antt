@@ -1,26 +1,24 @@
 -- The walk that gives each blob its new offset. Assumes nothing.
 use mathlib.Core.Path.{◌≡◌, refl, sym, ◌∙◌, ap}
-use mathlib.Core.Bool.{Bool, true, false, ◌&&◌, ◌||◌, true≢false}
-use mathlib.Core.Logic.{◌⊎◌, inl, inr, ⊎_elim}
+use mathlib.Core.Bool.{Bool, true, false}
+use mathlib.Core.Logic.{⊎_elim}
 use mathlib.Core.List.{List}
-use Prim.Native.Nat.{ℕ, zero, suc, ◌+◌, ◌*◌, ◌-◌, ◌/◌, ◌%◌, ◌^◌, ◌<◌, ◌≤◌}
-use native.Mathlib.Nat.{eq-or-lt_of_le}
+use Prim.Native.Nat.{ℕ, ◌+◌, ◌*◌, ◌-◌, ◌/◌, ◌%◌, ◌^◌, ◌<◌, ◌≤◌}
 use native.Mathlib.Numerals.{add-one}
 use native.Mathlib.Omega.{arith}
-use lib.Dec.{ltb, eqb}
 use lib.ListN.{length, get_or, set}
 use borrow.Author.Tests.{lt-ltb, le-ltb, eq-eqb, ne_eqb}
 use Rattle.words.specs.Decide.{pick, ◌<?◌}
 use Rattle.words.proofs.DecideLaws.{le_or_gt}
 use Rattle.wire.specs.Layout.{blob, entry_words}
 use Rattle.pack_pairs.specs.Pairs.{type_at, offset_at, length_at, stored}
-use Rattle.pack_pairs.specs.Stages.{first_use, room_of, room, new_offset, new_word, packed_word, packed, needed}
+use Rattle.pack_pairs.specs.Stages.{first_use, room_of, room, new_offset, new_word, packed_word, packed}
 use Rattle.pack_pairs.specs.Packing.{table}
 use Rattle.wire_check.specs.Writing.{entries_in}
 use Rattle.pack_links.specs.Statement.{plain_word, plain}
-use Rattle.pack_links.specs.Stages.{link, behind, Linked, stored_under, Over, Settled, Linking, goes_on, word_for, room_for, Movable, settled}
+use Rattle.pack_links.specs.Stages.{link, behind, Linked, stored_under, Over, goes_on, word_for, room_for, Movable, settled}
 use Rattle.pack_pairs.specs.Stages.{New}
-use Rattle.pack_pairs.proofs.UseLaws.{both_true, use_new, use_alike, new_use}
+use Rattle.pack_pairs.proofs.UseLaws.{use_new, use_alike, new_use}
 use Rattle.pack_pairs.proofs.RoomLaws.{room_grows, choose, packed_else, packed_fourth, new_word_stored, table_same, length_table}
 use Rattle.pack_links.proofs.TurnLaws.{Turned, turned_begin, turned_end, turned_keep, turned_set}
 

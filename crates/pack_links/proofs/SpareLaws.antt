@@ -7,7 +7,7 @@ use native.Mathlib.Omega.{arith}
 use lib.ListN.{length, get_or, get_or-eq_default}
 use Rattle.words.proofs.DecideLaws.{le_or_gt}
 use Rattle.wire_check.specs.Stages.{Good}
-use Rattle.pack_pairs.proofs.RuleLaws.{Fair, entry_fair}
+use Rattle.pack_pairs.proofs.RuleLaws.{entry_fair}
 use Rattle.pack_links.specs.Stages.{Spare}
 use Rattle.wire.specs.Layout.{entry_words}
 

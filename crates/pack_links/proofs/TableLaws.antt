@@ -4,7 +4,7 @@ use mathlib.Core.Path.{◌≡◌, refl, sym, ◌∙◌, ap}
 use mathlib.Core.Bool.{true, false, true≢false}
 use mathlib.Core.Logic.{◌⊎◌, inl, inr, ⊎_elim}
 use mathlib.Core.List.{List}
-use Prim.Native.Nat.{ℕ, zero, suc, ◌+◌, ◌*◌, ◌-◌, ◌/◌, ◌%◌, ◌<◌, ◌≤◌}
+use Prim.Native.Nat.{ℕ, ◌+◌, ◌*◌, ◌/◌, ◌%◌, ◌<◌, ◌≤◌}
 use native.Mathlib.Nat.{eq-or-lt_of_le, mod-lt}
 use native.Mathlib.Omega.{arith}
 use lib.ListN.{length, get_or, set, length-set}
@@ -12,10 +12,10 @@ use lib.Seq.{get_or-set_same, get_or-set_other}
 use Rattle.words.proofs.DecideLaws.{le_or_gt}
 use Rattle.pack_pairs.specs.Pairs.{offset_at, length_at, stored}
 use Rattle.pack_pairs.specs.Stages.{first_use}
-use Rattle.pack_links.specs.Stages.{link, behind, Leads, here, onward, Reaches, Linked, Climbs, Grows, Comes, Ends, Finds, block_start, bucket, head_of, stored_under, Looks, Spare, Over, Settled, Linking}
+use Rattle.pack_links.specs.Stages.{link, behind, Leads, here, onward, Linked, Climbs, Grows, Ends, Finds, block_start, bucket, head_of, stored_under, Looks, Spare, Over, Settled, Linking}
 use Rattle.pack_pairs.specs.Stages.{Alike, New}
 use Rattle.pack_links.specs.declared.Place.{Place}
-use Rattle.pack_links.specs.declared.Place.TheVariants.{Known, Free, Nowhere}
+use Rattle.std.specs.declared.option.Option.TheVariants.{Some}
 use Rattle.pack_pairs.proofs.UseLaws.{use_most, use_alike, use_new, use_at}
 use Rattle.wire.specs.Layout.{entry_words}
 
@@ -89,10 +89,8 @@ pub bucket_within : (offset n size : ℕ) → 0 < size → bucket offset n size 
 unfolding bucket
 bucket_within offset n size h = omega (arith, mod-lt (block_start offset + offset / 16 + n % 65_536) h)
 
-pub looks : (t : List ℕ) (i head : ℕ) (r : Place) → head ≡ head_of t i → stored_under t i ≡ true → Finds t i head r → Looks t i r
-looks t i head (Known j) e is finds = (is, finds)
-looks t i head (Free s) e is finds = (is, rw e at finds)
-looks t i head Nowhere e is finds = absurd finds
+pub looks : (t : List ℕ) (i head : ℕ) (r : Place) → head ≡ head_of t i → stored_under t i ≡ true → Finds t i head r → Looks t i (Some r)
+looks t i head r e is finds = (is, rw e at finds)
 
 module _ (values t : List ℕ) (i : ℕ) (links : Linking values t i) where
   -- pairs are as they were

@@ -1,23 +1,20 @@
 -- The walk that links all entries: what each step asks and leaves. Assumes nothing.
-use mathlib.Core.Path.{◌≡◌, refl, sym, ◌∙◌, ap}
+use mathlib.Core.Path.{◌≡◌, refl, sym, ◌∙◌}
 use mathlib.Core.Bool.{true, false}
-use mathlib.Core.Logic.{◌⊎◌, inl, inr, ⊎_elim}
 use mathlib.Core.List.{List}
-use Prim.Native.Nat.{ℕ, zero, suc, ◌+◌, ◌*◌, ◌-◌, ◌/◌, ◌%◌, ◌^◌, ◌<◌, ◌≤◌}
+use Prim.Native.Nat.{ℕ, ◌+◌, ◌*◌, ◌^◌, ◌<◌, ◌≤◌}
 use native.Mathlib.Numerals.{add-one}
 use native.Mathlib.Omega.{arith}
-use lib.ListN.{length, get_or, set}
-use borrow.Author.Tests.{lt-ltb, le-ltb}
-use Rattle.words.specs.Decide.{pick}
-use Rattle.words.proofs.DecideLaws.{le_or_gt}
-use Rattle.pack_pairs.specs.Pairs.{type_at, length_at, stored}
+use lib.ListN.{length}
+use Rattle.pack_pairs.specs.Pairs.{length_at, stored}
 use Rattle.pack_pairs.specs.Stages.{first_use, room, needed}
 use Rattle.pack_pairs.specs.Packing.{capped}
 use Rattle.wire_check.specs.Writing.{entries_in}
-use Rattle.pack_links.specs.Stages.{link, behind, Linked, Climbs, Comes, Ends, bucket, head_of, stored_under, Looks, linked_to, Spare, Over, Linking}
-use Rattle.pack_pairs.specs.Stages.{Alike, New}
+use Rattle.pack_links.specs.Stages.{link, behind, Climbs, Ends, head_of, stored_under, Looks, linked_to, Spare, Linking}
 use Rattle.pack_links.specs.declared.Place.{Place}
-use Rattle.pack_links.specs.declared.Place.TheVariants.{Known, Free, Nowhere}
+use Rattle.pack_links.specs.declared.Place.TheVariants.{Known, Free}
+use Rattle.std.specs.declared.option.Option.{Option}
+use Rattle.std.specs.declared.option.Option.TheVariants.{Some, None}
 use Rattle.pack_pairs.proofs.UseLaws.{room_new, room_used, room_none}
 use Rattle.pack_pairs.proofs.RoomLaws.{capped_add}
 use Rattle.pack_links.proofs.TableLaws.{Puts, puts, climbs, new_entry, links_begin, links_skip, links_new, links_used, use_known}
@@ -49,15 +46,15 @@ module _ (values t : List ℕ) (sum i : ℕ) (so_far : SoFar values t sum i) whe
     head_under = rw (so_far.2.over.pairs (entry_words * i + 3) (omega arith), so_far.2.over.pairs (entry_words * i + 4) (omega arith), as_long)
 
     -- it stores nothing
-    pub skip_go : (r : Place) → Looks t i r → r ≡ Nowhere → SoFar values t sum (i + 1)
+    pub skip_go : (r : Option Place) → Looks t i r → r ≡ None → SoFar values t sum (i + 1)
     skip_go r looks e =
         let none : stored_under t i ≡ false = rw e at looks in
         let nothing : stored values i ≡ false = sym stored_under_lem ∙ none in
         (omega arith, rw (add-one i, room_none values i nothing) so_far.1, links_skip values t i so_far.2 nothing)
 
     -- its pair is known
-    module _ (j : ℕ) (r : Place) (looks : Looks t i r) (e : r ≡ Known j) where
-      found : Looks t i (Known j)
+    module _ (j : ℕ) (r : Option Place) (looks : Looks t i r) (e : r ≡ Some (Known j)) where
+      found : Looks t i (Some (Known j))
       found = rw e at looks
 
       stores : stored values i ≡ true
@@ -79,8 +76,8 @@ module _ (values t : List ℕ) (sum i : ℕ) (so_far : SoFar values t sum i) whe
       )
 
     -- it is new
-    module _ (s : ℕ) (r : Place) (looks : Looks t i r) (e : r ≡ Free s) where
-      ended : Looks t i (Free s)
+    module _ (s : ℕ) (r : Option Place) (looks : Looks t i r) (e : r ≡ Some (Free s)) where
+      ended : Looks t i (Some (Free s))
       ended = rw e at looks
 
       stores_new : stored values i ≡ true

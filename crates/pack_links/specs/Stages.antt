@@ -3,13 +3,13 @@
 -- of its bucket; those over the type and the aggregate of an entry go on from it. So each bucket is a tree, in which
 -- the search for a pair turns by the bits of its offset and its length in turn: two pairs part after 128 turns at the
 -- latest. Nothing that is proved depends on which bucket a pair has. Assumes nothing.
-use Rattle.std.specs.Prelude.{ℕ, ◌+◌, ◌*◌, ◌-◌, ◌/◌, ◌%◌, ◌^◌, ◌<◌, ◌≤◌, ◌≡◌, ◌⊎◌, Bool, true, false, ◌&&◌, ◌||◌, List, length, get_or, set}
+use Rattle.std.specs.Prelude.{ℕ, ◌+◌, ◌*◌, ◌-◌, ◌/◌, ◌%◌, ◌^◌, ◌<◌, ◌≤◌, ◌≡◌, ◌⊎◌, Bool, true, false, ◌&&◌, ◌||◌, List, length, get_or, set, Option, Some, None}
 use Rattle.words.specs.Decide.{pick, ◌<?◌, ◌=?◌}
 use Rattle.wire.specs.Layout.{blob, entry_words}
 use Rattle.pack_pairs.specs.Pairs.{type_at, offset_at, length_at, stored}
 use Rattle.pack_pairs.specs.Stages.{Alike, New, first_use, needed}
 use Rattle.pack_links.specs.declared.Place.{Place}
-use Rattle.pack_links.specs.declared.Place.TheVariants.{Known, Free, Nowhere}
+use Rattle.pack_links.specs.declared.Place.TheVariants.{Known, Free}
 
 -- the link over the word s of the table
 abbrev pub link : List ℕ → ℕ → ℕ
@@ -66,7 +66,6 @@ pub record Ends (t : List ℕ) (i head s : ℕ) : Type 0 where
 abbrev pub Finds : List ℕ → ℕ → ℕ → Place → Type 0
 Finds t i head (Known j) = Linked t j × Alike t j i
 Finds t i head (Free s) = Ends t i head s
-Finds t i head Nowhere = ⊥
 
 -- where the buckets of a block of the area begin
 abbrev pub block_start : ℕ → ℕ
@@ -83,11 +82,10 @@ head_of t i = bucket (offset_at t i) (length_at t i) (length t / entry_words)
 abbrev pub stored_under : List ℕ → ℕ → Bool
 stored_under t i = blob (type_at t i % 65_536) && 0 <? length_at t i
 
--- the search for the pair of the entry i from its bucket; nowhere where it stores nothing
-abbrev pub Looks : List ℕ → ℕ → Place → Type 0
-Looks t i (Known j) = (stored_under t i ≡ true) × Finds t i (head_of t i) (Known j)
-Looks t i (Free s) = (stored_under t i ≡ true) × Finds t i (head_of t i) (Free s)
-Looks t i Nowhere = stored_under t i ≡ false
+-- the search for the pair of the entry i from its bucket; no place where it stores nothing
+abbrev pub Looks : List ℕ → ℕ → Option Place → Type 0
+Looks t i (Some place) = (stored_under t i ≡ true) × Finds t i (head_of t i) place
+Looks t i None = stored_under t i ≡ false
 
 -- t with a link to the entry k over the word s
 abbrev pub linked_to : List ℕ → ℕ → ℕ → List ℕ

@@ -10,14 +10,13 @@ use wire::layout::ENTRY_WORDS;
 // What a link adds to a word for each entry: the bits below are the word's own.
 pub const LINK: u64 = 0x1_0000;
 
+// Where a pair belongs.
 #[derive(Clone, Copy)]
 pub enum Place {
     // the entry that has the pair
     Known(usize),
     // the word over which to link it
     Free(usize),
-    // no pair to look for
-    Nowhere,
 }
 
 fn plain_word(values: &[u64], k: usize) -> u64
@@ -34,9 +33,7 @@ fn plain_word(values: &[u64], k: usize) -> u64
 pub fn unlink_all(values: &mut [u64])
     ensures { Unlinks values.old values.new }
 {
-    let mut k = 0;
-    while k < values.len() {
+    for k in 0..values.len() {
         values[k] = plain_word(values, k);
-        k += 1;
     }
 }

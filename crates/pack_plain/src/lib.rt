@@ -11,7 +11,6 @@ ghost use Rattle.pack_pairs.specs.Packing.{capped};
 ghost use Rattle.pack_pairs.specs.Stages.{same, first_use, room_of, room, new_offset, new_word, packed, packed_bytes, needed, Inside};
 ghost use Rattle.pack_answer.specs.Statement.{Packs};
 
-use pack_answer::answer::Packed;
 use pack_answer::entry::{add_capped, cut, is_blob, is_stored};
 use wire::error::WireError;
 use wire::layout::ENTRY_WORDS;
@@ -39,14 +38,12 @@ fn first_use(values: &[u64], i: usize) -> usize
     requires { entry_words * i + entry_words ≤ length values.now }
     ensures { result ≡ first_use values.now i }
 {
-    let mut j = 0;
-    while j < i {
+    for j in 0..i {
         if uses(values, j, i) {
             return j;
         }
-        j += 1;
     }
-    j
+    i
 }
 
 // The length of the entry's pair where it is new, else 0.
@@ -69,10 +66,8 @@ fn room_before(values: &[u64], n: usize) -> u64
     ensures { result ≡ capped (room values.now n) }
 {
     let mut sum = 0;
-    let mut i = 0;
-    while i < n {
+    for i in 0..n {
         sum = add_capped(sum, room_of(values, i));
-        i += 1;
     }
     sum
 }
@@ -113,38 +108,36 @@ fn copy_all(area: &[u8], values: &[u64], out: &mut [u8])
 {
     let size = values.len() / ENTRY_WORDS;
     let mut at = 0;
-    let mut i = 0;
-    while i < size {
+    for i in 0..size {
         let n = room_of(values, i);
         let bytes = cut(area, values[ENTRY_WORDS * i + 3], n);
         write_bytes(&mut out[at..], bytes);
         at += n as usize;
-        i += 1;
     }
 }
 
 // Packs a table of any length; a refusal leaves the table and the second area as they were.
-pub fn pack_plain(area: &[u8], values: &mut [u64], out: &mut [u8]) -> Packed
+pub fn pack_plain(area: &[u8], values: &mut [u64], out: &mut [u8]) -> Result<u64, WireError>
     ensures { Packs area.now values.old out.old result values.new
         out.new }
 {
     let entries = values.len() / ENTRY_WORDS;
     if values.len() % ENTRY_WORDS != 0 {
-        return Packed::Refused(WireError::BadTable {
+        return Err(WireError::BadTable {
             rule: 1,
             position: entries,
         });
     }
     let bad = first_bad(area, values);
     if bad < entries {
-        return Packed::Refused(WireError::BadTable {
+        return Err(WireError::BadTable {
             rule: 3,
             position: bad,
         });
     }
     let sum = room_before(values, entries);
     if (out.len() as u64) < sum {
-        return Packed::Refused(WireError::NoRoom(NoRoom {
+        return Err(WireError::NoRoom(NoRoom {
             room: Room::Output,
             needed: sum,
             given: out.len() as u64,
@@ -152,5 +145,5 @@ pub fn pack_plain(area: &[u8], values: &mut [u64], out: &mut [u8]) -> Packed
     }
     copy_all(area, values, out);
     move_all(values);
-    Packed::Filled(sum)
+    Ok(sum)
 }

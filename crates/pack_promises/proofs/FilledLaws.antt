@@ -20,7 +20,7 @@ use Rattle.pack_pairs.specs.Packing.{packing, packed_table, packed_area, needed_
 use Rattle.pack_pairs.specs.Stages.{packed, packed_bytes, needed}
 use Rattle.pack_pairs.proofs.PackingLaws.{needed_is, packed_is, area_is}
 use Rattle.pack_answer.specs.Statement.{Packs}
-use Rattle.pack_answer.specs.declared.answer.Packed.TheVariants.{Filled}
+use Rattle.std.specs.declared.result.Result.TheVariants.{Ok}
 use Rattle.pack_answer.proofs.AnswerLaws.{over_all, table_long}
 
 -- where the order of three checks accepts, each of them was passed
@@ -49,7 +49,7 @@ pub record Filling (area values out : List ℕ) (n : ℕ) (values' out' : List �
   pub bytes : out' ≡ over (packed_bytes area values (entries_in values)) out
 
 module _ (area values out : List ℕ) where
-  pub filling : (n : ℕ) (values' out' : List ℕ) → Packs area values out (Filled n) values' out' → Filling area values out n values' out'
+  pub filling : (n : ℕ) (values' out' : List ℕ) → Packs area values out (Ok n) values' out' → Filling area values out n values' out'
   unfolding packing
   filling n values' out' told =
       let tests = all_passed ((length values % entry_words) ≠? 0) (first_bad (length area) values <? entries_in values) (length out <? needed_bytes values) _ _ _ n (needed_bytes values) told.0 in
@@ -67,7 +67,7 @@ module _ (area values out : List ℕ) where
 
   -- and tables that are packed
   pub packs : length values % entry_words ≡ 0 → first_bad (length area) values ≡ entries_in values → needed values ≤ length out
-      → Packs area values out (Filled (needed values)) (packed values) (over (packed_bytes area values (entries_in values)) out)
+      → Packs area values out (Ok (needed values)) (packed values) (over (packed_bytes area values (entries_in values)) out)
   unfolding packing
   packs whole none fits =
       rw (eq-eqb (length values % entry_words) 0 whole, none, le-ltb (entries_in values) (entries_in values) (omega arith), le-ltb (length out) (needed_bytes values) (omega (arith, needed_is values)))

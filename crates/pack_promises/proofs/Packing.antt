@@ -18,12 +18,12 @@ use Rattle.words.specs.declared.outcome.Room.TheVariants.{Output}
 use Rattle.words.proofs.DecideLaws.{le_or_gt}
 use Rattle.words.proofs.PaperLaws.{no_room_of, no_room_back}
 use Rattle.wire.specs.Layout.{entry_words, blob, rowset_bytes}
+use Rattle.wire.specs.declared.error.WireError.{WireError}
 use Rattle.wire.specs.declared.error.WireError.TheVariants.{NoRoom}
 use Rattle.wire.proofs.PaperLaws.{paper_keeps}
 use Rattle.wire_check.specs.Writing.{entries_in, first_bad, writing}
 use Rattle.wire_write.proofs.Unique.{encode_rowset_unique}
 use Rattle.wire_write.specs.Statement.{Encodes}
-use Rattle.wire_write.specs.declared.write.Encoded.{Encoded}
 use Rattle.pack_pairs.specs.Pairs.{type_at}
 use Rattle.pack_pairs.specs.Packing.{packing, packed_table, packed_area, needed_bytes, capped}
 use Rattle.pack_pairs.specs.Stages.{packed, packed_bytes, room, needed, Inside}
@@ -33,8 +33,8 @@ use Rattle.pack_pairs.proofs.RoomLaws.{length_bytes}
 use Rattle.pack_pairs.proofs.RuleLaws.{good_inside}
 use Rattle.pack_pairs.proofs.UseLaws.{not_true_false}
 use Rattle.pack_answer.specs.Statement.{Packs}
-use Rattle.pack_answer.specs.declared.answer.Packed.{Packed}
-use Rattle.pack_answer.specs.declared.answer.Packed.TheVariants.{Filled, Refused}
+use Rattle.std.specs.declared.result.Result.{Result}
+use Rattle.std.specs.declared.result.Result.TheVariants.{Ok, Err}
 use Rattle.pack_answer.proofs.Unique.{packs_unique}
 use Rattle.pack_promises.specs.Packing.{Begins, PackKeepsContent, PackMovesOffsetsAlone, PackWritesTheSame, PackTwice, PackPairs, PackRoom, PackAccepts, PackRefusalKeeps}
 use Rattle.pack_promises.proofs.TwiceLaws.{packed_long, packed_other, offset_new, room_kept, packed_twice, bytes_twice}
@@ -45,7 +45,7 @@ use Rattle.pack_promises.proofs.FilledLaws.{Filling, filling, packs, none_found,
 
 -- An area that begins with the filled bytes is the packed bytes and something behind them
 
-module _ (area values out : List ℕ) (n : ℕ) (values' out' : List ℕ) (told : Packs area values out (Filled n) values' out') where
+module _ (area values out : List ℕ) (n : ℕ) (values' out' : List ℕ) (told : Packs area values out (Ok n) values' out') where
   is : Filling area values out n values' out'
   is = filling area values out n values' out' told
 
@@ -80,7 +80,7 @@ pack_writes_the_same area values out n values' out' told second same rows output
     rw (at, f.table) (bytes_as_before area values (packed_bytes area values (entries_in values) ++ drop n second) (packed values) each rows) in
     let as_before : Encodes area rows values output w' after' = (now.0 ∙ answers, now.1 ∙ ap (λ (a : Answer). afterwards a (rowset_bytes second rows values') output) answers ∙ ap (λ (l : List ℕ). afterwards (writing area rows values (length output)) l output) bytes) in
     let one = encode_rowset_unique area rows values output (w', after') (w, after) as_before before in
-    (ap (λ (x : Encoded × List ℕ). x.0) one, ap (λ (x : Encoded × List ℕ). x.1) one)
+    (ap (λ (x : Result ℕ WireError × List ℕ). x.0) one, ap (λ (x : Result ℕ WireError × List ℕ). x.1) one)
 
 -- Of the table, the offsets of blobs change alone.
 
@@ -106,10 +106,10 @@ pack_refusal_keeps area values out refusal values' out' told = (
 )
 
 pub pack_moves_offsets_alone : PackMovesOffsetsAlone
-pack_moves_offsets_alone area values out (Filled n) values' out' told =
+pack_moves_offsets_alone area values out (Ok n) values' out' told =
     let f = filling area values out n values' out' told in
     (ap length f.table ∙ packed_long values, λ k other. ap (λ (l : List ℕ). get_or l k 0) f.table ∙ offsets_alone values k f.whole other)
-pack_moves_offsets_alone area values out (Refused refusal) values' out' told =
+pack_moves_offsets_alone area values out (Err refusal) values' out' told =
     let same : values' ≡ values = (pack_refusal_keeps area values out refusal values' out' told).0 in
     (ap length same, λ k other. ap (λ (l : List ℕ). get_or l k 0) same)
 
@@ -127,10 +127,10 @@ pack_twice area values out n values' out' told second same third r values'' thir
     rw (f.table, entries-kept, at) (bytes_twice values area (drop n second) inside (entries_in values) (omega arith)) in
     let sum : needed values' ≡ n = ap needed f.table ∙ needs ∙ sym f.sum in
     let there = packs second values' third (rw (f.table, packed_long values) f.whole) none (omega (arith, sum)) in
-    let one = packs_unique second values' third (r, values'', third') (Filled (needed values'), packed values', over (packed_bytes second values' (entries_in values')) third) again there in (
-      ap (λ (x : Packed × List ℕ × List ℕ). x.0) one ∙ ap Filled sum,
-      ap (λ (x : Packed × List ℕ × List ℕ). x.1) one ∙ ap packed f.table ∙ packed_twice values f.whole ∙ sym f.table,
-      ap (λ (x : Packed × List ℕ × List ℕ). take n x.2) one ∙ ap (λ (l : List ℕ). take n (over l third)) bytes
+    let one = packs_unique second values' third (r, values'', third') (Ok (needed values'), packed values', over (packed_bytes second values' (entries_in values')) third) again there in (
+      ap (λ (x : Result ℕ WireError × List ℕ × List ℕ). x.0) one ∙ ap Ok sum,
+      ap (λ (x : Result ℕ WireError × List ℕ × List ℕ). x.1) one ∙ ap packed f.table ∙ packed_twice values f.whole ∙ sym f.table,
+      ap (λ (x : Result ℕ WireError × List ℕ × List ℕ). take n x.2) one ∙ ap (λ (l : List ℕ). take n (over l third)) bytes
           ∙ take_at (packed_bytes area values (entries_in values)) _ n (as_long area values out n values' out' told) ∙ sym (front area values out n values' out' told),
     )
 
@@ -144,7 +144,7 @@ pack_pairs values = (
 
 -- The room.
 
-no_room : (area values out : List ℕ) (short : words.NoRoom) (values' out' : List ℕ) → Packs area values out (Refused (NoRoom short)) values' out'
+no_room : (area values out : List ℕ) (short : words.NoRoom) (values' out' : List ℕ) → Packs area values out (Err (NoRoom short)) values' out'
     → (short ≡ record { room = Output; needed = capped (needed_bytes values); given = length out }) × (length out < needed_bytes values)
 unfolding packing
 no_room area values out short values' out' told =
@@ -157,7 +157,7 @@ pub pack_room : PackRoom
 unfolding needed_bytes packed_area
 pack_room area values out r values' out' told = (
   (λ n e.
-      let filled : Packs area values out (Filled n) values' out' = rw e at told in
+      let filled : Packs area values out (Ok n) values' out' = rw e at told in
       let f = filling area values out n values' out' filled in
       (f.sum ∙ needed_is values, omega (arith, f.sum, f.fits), front area values out n values' out' filled ∙ area_is values area, rest area values out n values' out' filled)),
   (λ short e. no_room area values out short values' out' (rw e at told)),
@@ -172,6 +172,6 @@ pack_accepts area values out r values' out' told = (
       record { whole = f.whole; good = λ i h. f.good (entry_words * i) (omega arith) (omega arith) }),
   (λ able fits.
       let there = packs area values out able.whole (none_found area values able.good) (omega (arith, needed_is values, fits)) in
-      let one = packs_unique area values out (r, values', out') (Filled (needed values), packed values, over (packed_bytes area values (entries_in values)) out) told there in
-      ap (λ (x : Packed × List ℕ × List ℕ). x.0) one ∙ ap Filled (needed_is values)),
+      let one = packs_unique area values out (r, values', out') (Ok (needed values), packed values, over (packed_bytes area values (entries_in values)) out) told there in
+      ap (λ (x : Result ℕ WireError × List ℕ × List ℕ). x.0) one ∙ ap Ok (needed_is values)),
 )

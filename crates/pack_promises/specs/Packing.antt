@@ -1,6 +1,6 @@
 -- What document 02's A11 asks of packing, over `Packs`, the statement of `pack`, and `Encodes`, that of
 -- `encode_rowset`. Assumes nothing.
-use Rattle.std.specs.Prelude.{ℕ, ◌*◌, ◌/◌, ◌%◌, ◌<◌, ◌≤◌, true, false, List, [], ◌∷◌, ◌≡◌, length, get_or, take, drop}
+use Rattle.std.specs.Prelude.{ℕ, ◌*◌, ◌/◌, ◌%◌, ◌<◌, ◌≤◌, true, false, List, [], ◌∷◌, ◌≡◌, length, get_or, take, drop, Result, Ok, Err}
 use Rattle.words.specs.Answer.{accepted}
 use Rattle.words.specs.Paper.{no_room}
 use Rattle.words.specs.Text.{text}
@@ -12,12 +12,9 @@ use Rattle.wire.specs.declared.error.WireError.{WireError}
 use Rattle.wire.specs.declared.error.WireError.TheVariants.{NoRoom}
 use Rattle.wire_check.specs.Writing.{entries_in, bad_entry}
 use Rattle.wire_write.specs.Statement.{Encodes}
-use Rattle.wire_write.specs.declared.write.Encoded.{Encoded}
 use Rattle.pack_pairs.specs.Pairs.{type_at, stored, Pair, has, pair_at, distinct, sizes, bytes_of_pairs}
 use Rattle.pack_pairs.specs.Packing.{capped, packing, packed_table, packed_area}
 use Rattle.pack_answer.specs.Statement.{Packs}
-use Rattle.pack_answer.specs.declared.answer.Packed.{Packed}
-use Rattle.pack_answer.specs.declared.answer.Packed.TheVariants.{Filled, Refused}
 
 -- an area that begins with the n bytes that were filled: the second area itself, or those bytes alone
 abbrev pub Begins : ℕ → List ℕ → List ℕ → Type 0
@@ -26,7 +23,7 @@ Begins n out second = take n second ≡ take n out
 -- "Values keep their order and content": with any row table the rows have the content that they had, offsets apart.
 abbrev pub PackKeepsContent : Type 0
 PackKeepsContent =
-    (area values out : List ℕ) (n : ℕ) (values' out' : List ℕ) → Packs area values out (Filled n) values' out'
+    (area values out : List ℕ) (n : ℕ) (values' out' : List ℕ) → Packs area values out (Ok n) values' out'
     → (second : List ℕ) → Begins n out' second
     → (rows : List ℕ) → rows_in second rows values' ≡ rows_in area rows values
 
@@ -34,7 +31,7 @@ PackKeepsContent =
 -- blob's entry stays.
 abbrev pub PackMovesOffsetsAlone : Type 0
 PackMovesOffsetsAlone =
-    (area values out : List ℕ) (r : Packed) (values' out' : List ℕ) → Packs area values out r values' out'
+    (area values out : List ℕ) (r : Result ℕ WireError) (values' out' : List ℕ) → Packs area values out r values' out'
     → (length values' ≡ length values)
     × ((k : ℕ) → (k % entry_words ≡ 3 → blob (type_at values (k / entry_words)) ≡ true → ⊥)
     → get_or values' k 0 ≡ get_or values k 0)
@@ -43,9 +40,9 @@ PackMovesOffsetsAlone =
 -- refusal too, and the same output afterwards.
 abbrev pub PackWritesTheSame : Type 0
 PackWritesTheSame =
-    (area values out : List ℕ) (n : ℕ) (values' out' : List ℕ) → Packs area values out (Filled n) values' out'
+    (area values out : List ℕ) (n : ℕ) (values' out' : List ℕ) → Packs area values out (Ok n) values' out'
     → (second : List ℕ) → Begins n out' second
-    → (rows output : List ℕ) (w w' : Encoded) (after after' : List ℕ)
+    → (rows output : List ℕ) (w w' : Result ℕ WireError) (after after' : List ℕ)
     → Encodes area rows values output w after → Encodes second rows values' output w' after'
     → (w' ≡ w) × (after' ≡ after)
 
@@ -53,11 +50,11 @@ PackWritesTheSame =
 -- has the room.
 abbrev pub PackTwice : Type 0
 PackTwice =
-    (area values out : List ℕ) (n : ℕ) (values' out' : List ℕ) → Packs area values out (Filled n) values' out'
+    (area values out : List ℕ) (n : ℕ) (values' out' : List ℕ) → Packs area values out (Ok n) values' out'
     → (second : List ℕ) → Begins n out' second
-    → (third : List ℕ) (r : Packed) (values'' third' : List ℕ) → n ≤ length third
+    → (third : List ℕ) (r : Result ℕ WireError) (values'' third' : List ℕ) → n ≤ length third
     → Packs second values' third r values'' third'
-    → (r ≡ Filled n) × (values'' ≡ values') × (take n third' ≡ take n out')
+    → (r ≡ Ok n) × (values'' ≡ values') × (take n third' ≡ take n out')
 
 -- no pair stands in the list twice
 abbrev pub Once : List Pair → Type 0
@@ -79,11 +76,11 @@ PackPairs =
 -- is more than there is.
 abbrev pub PackRoom : Type 0
 PackRoom =
-    (area values out : List ℕ) (r : Packed) (values' out' : List ℕ) → Packs area values out r values' out'
-    → ((n : ℕ) → r ≡ Filled n
+    (area values out : List ℕ) (r : Result ℕ WireError) (values' out' : List ℕ) → Packs area values out r values' out'
+    → ((n : ℕ) → r ≡ Ok n
     → (n ≡ sizes (distinct values)) × (n ≤ length out) × (take n out' ≡ bytes_of_pairs area (distinct values))
     × (drop n out' ≡ drop n out))
-    × ((short : words.NoRoom) → r ≡ Refused (NoRoom short)
+    × ((short : words.NoRoom) → r ≡ Err (NoRoom short)
     → (short ≡ record { room = Output; needed = capped (sizes (distinct values)); given = length out })
     × (length out < sizes (distinct values)))
 
@@ -95,15 +92,15 @@ pub record Packable (area values : List ℕ) : Type 0 where
 -- It packs exactly where rules 1 and 3 are kept and the room is there.
 abbrev pub PackAccepts : Type 0
 PackAccepts =
-    (area values out : List ℕ) (r : Packed) (values' out' : List ℕ) → Packs area values out r values' out'
-    → ((n : ℕ) → r ≡ Filled n → Packable area values)
-    × (Packable area values → sizes (distinct values) ≤ length out → r ≡ Filled (sizes (distinct values)))
+    (area values out : List ℕ) (r : Result ℕ WireError) (values' out' : List ℕ) → Packs area values out r values' out'
+    → ((n : ℕ) → r ≡ Ok n → Packable area values)
+    × (Packable area values → sizes (distinct values) ≤ length out → r ≡ Ok (sizes (distinct values)))
 
 -- A refusal changes nothing.
 abbrev pub PackRefusalKeeps : Type 0
 PackRefusalKeeps =
     (area values out : List ℕ) (refusal : WireError) (values' out' : List ℕ)
-    → Packs area values out (Refused refusal) values' out' → (values' ≡ values) × (out' ≡ out)
+    → Packs area values out (Err refusal) values' out' → (values' ≡ values) × (out' ≡ out)
 
 -- An example, computed: "old Dorsch new Kabeljau" under the values String (4, 6), Any (15, 8), Int64 99, Composite
 -- (4, 6), String (5, 5), String (23, 0).

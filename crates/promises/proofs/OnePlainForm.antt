@@ -22,10 +22,7 @@ use Rattle.wire_read.specs.Reading.{end_of, values_of}
 use Rattle.wire_read.specs.Plain.{plain}
 use Rattle.wire_read.specs.Statement.{Decodes, TellsPlain}
 use Rattle.wire_read.specs.declared.rowset.Decoded.{Decoded}
-use Rattle.wire_read.specs.declared.rowset.Decoded.TheVariants.{Read, Refused as NotRead}
 use Rattle.wire_read.proofs.RowLaws.{row_word}
-use Rattle.wire_write.specs.declared.write.Encoded.{Encoded}
-use Rattle.wire_write.specs.declared.write.Encoded.TheVariants.{Written, Refused as NotWritten}
 use Rattle.wire_write.specs.Statement.{Encodes}
 use Rattle.wire_check.specs.Writing.{total}
 use Rattle.promises.specs.RowsetReader.{RowStands, ValueStands, Acceptable, EachValue}
@@ -40,6 +37,9 @@ use Rattle.promises.proofs.RowsetReader.{rowset_reader_accepts}
 use Rattle.promises.proofs.PlainForm.{plain_exactly}
 use Rattle.promises.proofs.PlainWritten.{written_plain}
 use Rattle.promises.proofs.Rowsets.{read_fronts}
+use Rattle.wire.specs.declared.error.WireError.{WireError}
+use Rattle.std.specs.declared.result.Result.{Result}
+use Rattle.std.specs.declared.result.Result.TheVariants.{Ok, Err}
 
 flag_bit : (n : ℕ) → flag n ≤ 1
 flag_bit n = by_test (eqb n 0) (λ t. rw t (omega arith)) (λ t. rw t (omega arith))
@@ -323,23 +323,23 @@ plain_is_what_the_writer_writes s says row_table value_table r rowTable' valueTa
         let told = (plain_exactly s says tells).0 is in
         let ok : Acceptable s = told.1 in
         let same : bytes_of_rows (rows_of s) ≡ s = plain_bytes s all ok told.2 in
-        let answer : r ≡ Read (count_at s 0) (values_of s) = (rowset_reader_accepts s row_table value_table r rowTable' valueTable' decodes).1 ok room in
+        let answer : r ≡ Ok record { rows = count_at s 0; values = values_of s } = (rowset_reader_accepts s row_table value_table r rowTable' valueTable' decodes).1 ok room in
         let fronts = read_fronts s row_table value_table (count_at s 0) (values_of s) rowTable' valueTable' (rw answer at decodes) in
         let given : Encodes s (row_words s (count_at s 0) 8) (value_words s (count_at s 0) 8) out w after = rw (answer, fronts.0, fronts.1) at encodes in
         let bytes_are : table_bytes s (row_words s (count_at s 0) 8) (value_words s (count_at s 0) 8) ≡ s = ap bytes_of_rows (filled s all ok) ∙ same in
         let writer = rowset_writer_accepts s (row_words s (count_at s 0) 8) (value_words s (count_at s 0) 8) out w after given in
-        let wrote : w ≡ Written (length (table_bytes s (row_words s (count_at s 0) 8) (value_words s (count_at s 0) 8))) = writer.1 (tables_encodable s all ok (rw same told.0)) (rw bytes_are wide) in
+        let wrote : w ≡ Ok (length (table_bytes s (row_words s (count_at s 0) 8) (value_words s (count_at s 0) 8))) = writer.1 (tables_encodable s all ok (rw same told.0)) (rw bytes_are wide) in
         let front = (writer.0 _ wrote).3 in
         rw (answer, wrote) (ap (take (length (table_bytes s (row_words s (count_at s 0) 8) (value_words s (count_at s 0) 8)))) front ∙ take_at _ _ _ refl ∙ bytes_are)
 
-    written_yes : (r : Decoded) (w : Encoded) → Decodes s row_table value_table r rowTable' valueTable' → Encodes s (rows_read r rowTable') (values_read r valueTable') out w after → WrittenBack s r w after → says ≡ true
-    written_yes (Read n m) (Written size) read given same =
-        let ok : Acceptable s = ((rowset_reader_accepts s row_table value_table (Read n m) rowTable' valueTable' read).0 n m refl).0 in
-        let fronts = read_fronts s row_table value_table n m rowTable' valueTable' read in
-        let writes : Encodes s (row_words s (count_at s 0) 8) (value_words s (count_at s 0) 8) out (Written size) after = rw (fronts.0, fronts.1) at given in
-        let wrote = (rowset_writer_accepts s (row_words s (count_at s 0) 8) (value_words s (count_at s 0) 8) out (Written size) after writes).0 size refl in
+    written_yes : (r : Result Decoded WireError) (w : Result ℕ WireError) → Decodes s row_table value_table r rowTable' valueTable' → Encodes s (rows_read r rowTable') (values_read r valueTable') out w after → WrittenBack s r w after → says ≡ true
+    written_yes (Ok d) (Ok size) read given same =
+        let ok : Acceptable s = ((rowset_reader_accepts s row_table value_table (Ok d) rowTable' valueTable' read).0 d.rows d.values refl).0 in
+        let fronts = read_fronts s row_table value_table d.rows d.values rowTable' valueTable' read in
+        let writes : Encodes s (row_words s (count_at s 0) 8) (value_words s (count_at s 0) 8) out (Ok size) after = rw (fronts.0, fronts.1) at given in
+        let wrote = (rowset_writer_accepts s (row_words s (count_at s 0) 8) (value_words s (count_at s 0) 8) out (Ok size) after writes).0 size refl in
         let is : s ≡ bytes_of_rows (rows_of s) = sym same ∙ ap (take size) wrote.3 ∙ take_at _ _ size (sym wrote.1) ∙ ap bytes_of_rows (filled s all ok) in
         let small : length (bytes_of_rows (rows_of s)) ≤ max_size = rw (filled s all ok) at wrote.0.small in
         tells ∙ ap plain is ∙ written_plain (rows_of s) (content_good s all ok) small
-    written_yes (Read n m) (NotWritten refusal) read given same = absurd same
-    written_yes (NotRead refusal) w read given same = absurd same
+    written_yes (Ok d) (Err refusal) read given same = absurd same
+    written_yes (Err refusal) w read given same = absurd same

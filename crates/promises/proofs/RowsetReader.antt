@@ -23,12 +23,12 @@ use Rattle.wire_read.specs.Reading.{reading, end_of, values_of, reading_lines}
 use Rattle.wire_read.specs.Paper.{paper_decoded}
 use Rattle.wire_read.specs.Statement.{Decodes}
 use Rattle.wire_read.specs.declared.rowset.Decoded.{Decoded}
-use Rattle.wire_read.specs.declared.rowset.Decoded.TheVariants.{Read, Refused}
 use Rattle.wire_read.proofs.Unique.{decoded_injective}
 use Rattle.wire_read.proofs.ReadingLaws.{reading_walks}
 use Rattle.promises.specs.RowsetReader.{RowStands, ValueStands, Acceptable, Roomy, RowsetReaderAccepts, RowsetOrderDecides}
 use Rattle.promises.proofs.CellRound.{by_test}
 use Rattle.promises.proofs.RowsetWriter.{lets, Lets, passed}
+use Rattle.std.specs.declared.result.Result.TheVariants.{Ok, Err}
 
 module _ (s : List ℕ) where
   value_stands : (at : ℕ) (rest : Answer) → Lets (decide (value_order s at) rest) → ValueStands s at × Lets rest
@@ -167,7 +167,7 @@ rowset_reader_accepts s rows values r rows' values' decodes = (
         sym room.3,
       )),
   (λ ok room.
-      decoded_injective r (Read (count_at s 0) (values_of s))
+      decoded_injective r (Ok record { rows = count_at s 0; values = values_of s })
       (decodes.0 ∙ reading_walks s (length rows) (length values) ∙ rowset_passes s _ ok ∙ rw (le-ltb (length rows) (count_at s 0) room.for_rows, le-ltb (length values / entry_words) (values_of s) room.for_values))),
   (λ short e.
       let is : walk ≡ refuse 17 (no_room_values short) = sym (reading_walks s (length rows) (length values)) ∙ sym decodes.0 ∙ ap paper_decoded e in
@@ -176,9 +176,9 @@ rowset_reader_accepts s rows values r rows' values' decodes = (
         λ room. by_short (ltb (length rows) (count_at s 0)) (ltb (length values / entry_words) (values_of s)) short (sym (rowset_passes s _ ok) ∙ is)
             (le-ltb (length rows) (count_at s 0) room.for_rows) (le-ltb (length values / entry_words) (values_of s) room.for_values),
       )),
-  (λ ok short. decoded_injective r (Refused (NoRoom (record { room = Rows; needed = count_at s 0; given = length rows }))) (decodes.0 ∙ reading_walks s (length rows) (length values) ∙ rowset_passes s _ ok ∙ rw (lt-ltb (length rows) (count_at s 0) short))),
+  (λ ok short. decoded_injective r (Err (NoRoom (record { room = Rows; needed = count_at s 0; given = length rows }))) (decodes.0 ∙ reading_walks s (length rows) (length values) ∙ rowset_passes s _ ok ∙ rw (lt-ltb (length rows) (count_at s 0) short))),
   (λ ok fits short.
-      decoded_injective r (Refused (NoRoom (record { room = Values; needed = values_of s; given = length values / entry_words })))
+      decoded_injective r (Err (NoRoom (record { room = Values; needed = values_of s; given = length values / entry_words })))
       (decodes.0 ∙ reading_walks s (length rows) (length values) ∙ rowset_passes s _ ok ∙ rw (le-ltb (length rows) (count_at s 0) fits, lt-ltb (length values / entry_words) (values_of s) short))),
 )
   where
@@ -205,7 +205,7 @@ unfolding reading
 rowset_order_decides s rows values r rows' values' decodes =
     ⊎_elim
     (λ (one : Decides lines answer). inl (rw decodes.0 one))
-    (λ (none : Silent lines × (answer ≡ last)). inr (none.0, decoded_injective r (Read (count_at s 0) (values_of s)) (decodes.0 ∙ none.1)))
+    (λ (none : Silent lines × (answer ≡ last)). inr (none.0, decoded_injective r (Ok record { rows = count_at s 0; values = values_of s }) (decodes.0 ∙ none.1)))
     (deciding lines last)
   where
     lines : List (Line Answer)

@@ -12,9 +12,7 @@ use Rattle.words.proofs.WordLaws.{length_bytes_of, bytes_bytes_of}
 use Rattle.wire.specs.Layout.{null_mark, max_length, max_size, string, padding, payload, count_at, next_value, next_values, next_row, next_rows, value_count, row_words, value_words}
 use Rattle.wire.specs.declared.error.WireError.TheVariants.{NoRoom}
 use Rattle.wire_read.specs.Reading.{values_lines, rows_lines, input_lines, reading_lines, reading}
-use Rattle.wire_read.specs.declared.rowset.Decoded.TheVariants.{Read, Refused as NotRead}
 use Rattle.wire_check.specs.Writing.{total, first_bad, rows_size, rowset_size, rows_limits, check_lines, writing}
-use Rattle.wire_write.specs.declared.write.Encoded.TheVariants.{Written, Refused as NotWritten}
 use Rattle.wire_read.specs.Plain.{zeros, plain_value, plain_values, plain_rows, accepts, plain}
 use Rattle.wire.specs.Content.{Cell, bytes, Row, null, values, cell_bytes, cells_bytes, rows_bytes, bytes_of_rows}
 use Rattle.promises.specs.RowContent.{cells_at, rows_at, GoodCell, GoodCells, Writable}
@@ -25,6 +23,7 @@ use Rattle.promises.proofs.ContentRound.{reads_count, behind}
 use Rattle.promises.proofs.PlainForm.{rows_each, plain_exactly}
 use Rattle.promises.proofs.PlainWritten.{rows_plain}
 use Rattle.promises.proofs.Rowsets.{rowset_round_trip}
+use Rattle.std.specs.declared.result.Result.TheVariants.{Ok, Err}
 
 abbrev is_null : Row → ℕ
 is_null null = 1
@@ -108,8 +107,8 @@ bytes_two = joined (bytes_of 8 2 ++ bytes_of 8 null_mark) (bytes_of 8 0) (joined
 pub not_without_the_room : NotWithoutTheRoom
 unfolding two_rows plain accepts plain_rows plain_values input_lines rows_lines values_lines reading_lines reading writing check_lines first_from rowset_size rows_size rows_limits total first_bad next_rows next_row next_values value_count row_words value_words word bytes_of
 not_without_the_room = (
-  (λ claim. claim two_rows true [] [] (NotRead (NoRoom (record { room = Rows; needed = 2; given = 0 }))) [] [] two_rows (Written 8) _ bytes_two refl tt (refl, refl, refl) (omega arith) (refl, refl) refl),
-  (λ claim. claim (bytes_of 8 0) true [] [] (Read 0 0) [] [] [] (NotWritten (NoRoom (record { room = Output; needed = 8; given = 0 }))) [] (bytes_bytes_of 8 0) refl (record { for_rows = omega arith; for_values = omega arith }) (refl, refl, refl) tt (refl, refl) refl),
+  (λ claim. claim two_rows true [] [] (Err (NoRoom (record { room = Rows; needed = 2; given = 0 }))) [] [] two_rows (Ok 8) _ bytes_two refl tt (refl, refl, refl) (omega arith) (refl, refl) refl),
+  (λ claim. claim (bytes_of 8 0) true [] [] (Ok record { rows = 0; values = 0 }) [] [] [] (Err (NoRoom (record { room = Output; needed = 8; given = 0 }))) [] (bytes_bytes_of 8 0) refl (record { for_rows = omega arith; for_values = omega arith }) (refl, refl, refl) tt (refl, refl) refl),
 )
 
 pub accepted_is_not_plain : AcceptedIsNotPlain

@@ -21,8 +21,6 @@ use Rattle.wire_check.specs.Writing.{id_in, type_in, aggregate_in, bits_in, leng
 use Rattle.wire_check.specs.Stages.{table_order, fit_values, fit_row, fit_rows, fitting}
 use Rattle.wire_check.specs.Stages.{Good, Sound}
 use Rattle.wire_check.proofs.TableLaws.{none_wrong, tables_pass}
-use Rattle.wire_write.specs.declared.write.Encoded.{Encoded}
-use Rattle.wire_write.specs.declared.write.Encoded.TheVariants.{Written, Refused}
 use Rattle.wire_write.specs.Paper.{paper_encoded}
 use Rattle.wire_write.specs.Statement.{Encodes}
 use Rattle.wire_write.proofs.LengthLaws.{rowset_length}
@@ -33,6 +31,7 @@ use Rattle.wire.specs.Content.{rows_in, bytes_of_rows}
 use Rattle.promises.specs.RowsetWriter.{Allowed, table_bytes, Encodable, RowsetWriterAccepts}
 use Rattle.promises.proofs.CellRound.{by_test}
 use Rattle.promises.proofs.TableBytes.{AllowedFrom, allowed_first, allowed_next, allowed_rest, rowset_bytes_lem}
+use Rattle.std.specs.declared.result.Result.TheVariants.{Ok, Err}
 
 -- accepted, or refused by 17 alone
 abbrev pub lets : Answer → Bool
@@ -236,7 +235,7 @@ rowset_writer_accepts area rows values before r after encodes = (
       )),
   (λ ok room.
       let size = size_is area rows values ok in
-      encoded_one r (Written (length (table_bytes area rows values)))
+      encoded_one r (Ok (length (table_bytes area rows values)))
       (encodes.0 ∙ writing_walks area rows values (length before) ∙ fitting_passes area rows values ok _ ∙ rw (le-ltb (length before) (rowset_size rows values) (omega (arith, size)), size))),
   (λ short e.
       let is : walk ≡ refuse 17 (no_room_values short) = sym (writing_walks area rows values (length before)) ∙ sym encodes.0 ∙ ap paper_encoded e in
@@ -245,7 +244,7 @@ rowset_writer_accepts area rows values before r after encodes = (
       (found.0, omega (arith, found.1, ltb-true (length before) (rowset_size rows values) (by_short (ltb (length before) (rowset_size rows values)) short answer)))),
   (λ ok short.
       let size = size_is area rows values ok in
-      encoded_one r (Refused (NoRoom (record { room = Output; needed = length (table_bytes area rows values); given = length before })))
+      encoded_one r (Err (NoRoom (record { room = Output; needed = length (table_bytes area rows values); given = length before })))
       (encodes.0 ∙ writing_walks area rows values (length before) ∙ fitting_passes area rows values ok _ ∙ rw (lt-ltb (length before) (rowset_size rows values) (omega (arith, size)), size))),
 )
   where

@@ -12,10 +12,8 @@ use Rattle.wire.proofs.LayoutLaws.{length_row_words, length_value_words}
 use Rattle.wire_read.specs.Reading.{values_of}
 use Rattle.wire_read.specs.Paper.{paper_decoded}
 use Rattle.wire_read.specs.Statement.{Decodes}
-use Rattle.wire_read.specs.declared.rowset.Decoded.TheVariants.{Read}
 use Rattle.wire_read.proofs.DecodeLaws.{decodes_told}
 use Rattle.wire_read.proofs.RowLaws.{row_word, row_entries}
-use Rattle.wire_write.specs.declared.write.Encoded.TheVariants.{Written}
 use Rattle.wire_check.specs.Writing.{total}
 use Rattle.wire.specs.Content.{Row, rows_in, bytes_of_rows}
 use Rattle.promises.specs.RowContent.{rows_of, Writable}
@@ -29,6 +27,7 @@ use Rattle.promises.proofs.TableBytes.{content_writable}
 use Rattle.promises.proofs.RowsetWriter.{lets, from_front, rowset_writer_accepts}
 use Rattle.promises.proofs.RowsetReader.{acceptable, rowset_reader_accepts}
 use Rattle.promises.proofs.PlainWritten.{written_plain}
+use Rattle.std.specs.declared.result.Result.TheVariants.{Ok}
 
 -- the front of what was written over a table, and what is behind it
 front : (ws xs : List ℕ) (n : ℕ) → length ws ≡ n → take n (over ws xs) ≡ ws
@@ -48,11 +47,11 @@ row_within : (s : List ℕ) (n i at : ℕ) → i < n
 row_within s n i at h = rw (length_value_words s n at) (omega (arith, values_before s n i at h))
 
 -- the fronts of the tables that reading filled
-pub read_fronts : (s rows values : List ℕ) (n m : ℕ) (rows' values' : List ℕ) → Decodes s rows values (Read n m) rows' values'
+pub read_fronts : (s rows values : List ℕ) (n m : ℕ) (rows' values' : List ℕ) → Decodes s rows values (Ok record { rows = n; values = m }) rows' values'
     → (take n rows' ≡ row_words s (count_at s 0) 8) × (take (entry_words * m) values' ≡ value_words s (count_at s 0) 8)
 read_fronts s rows values n m rows' values' decodes =
-    let tables = decodes_told s rows values (Read n m) rows' values' decodes in
-    let told = (rowset_reader_accepts s rows values (Read n m) rows' values' decodes).0 n m refl in (
+    let tables = decodes_told s rows values (Ok record { rows = n; values = m }) rows' values' decodes in
+    let told = (rowset_reader_accepts s rows values (Ok record { rows = n; values = m }) rows' values' decodes).0 n m refl in (
       ap (take n) tables.0 ∙ front (row_words s (count_at s 0) 8) rows n (length_row_words s (count_at s 0) 8 ∙ sym told.2),
       ap (take (entry_words * m)) tables.1 ∙ front (value_words s (count_at s 0) 8) values (entry_words * m) (length_value_words s (count_at s 0) 8 ∙ ap (λ (k : ℕ). entry_words * k) (sym told.3)),
     )
@@ -60,8 +59,8 @@ read_fronts s rows values n m rows' values' decodes =
 -- "I prepared fisheries and opened dentistry" cannot happen: row i stands at row i.
 pub rows_in_order : RowsInOrder
 rows_in_order s rows values n m rows' values' decodes =
-    let tables = decodes_told s rows values (Read n m) rows' values' decodes in
-    let told = (rowset_reader_accepts s rows values (Read n m) rows' values' decodes).0 n m refl in
+    let tables = decodes_told s rows values (Ok record { rows = n; values = m }) rows' values' decodes in
+    let told = (rowset_reader_accepts s rows values (Ok record { rows = n; values = m }) rows' values' decodes).0 n m refl in
     let count : n ≡ count_at s 0 = told.2 in
     let all : m ≡ values_of s = told.3 in
     let rowLength : length (row_words s (count_at s 0) 8) ≡ n = length_row_words s (count_at s 0) 8 ∙ sym count in
@@ -100,7 +99,7 @@ written_is_plain rows says good small tells = tells ∙ written_plain rows good 
 -- And so it is of the bytes that `encode_rowset` says it wrote.
 pub rowset_encode_then_decode : RowsetEncodeThenDecode
 rowset_encode_then_decode area rows values out n after row_table value_table r rowTable' valueTable' says words told roomy wide decodes tells =
-    let wrote = (rowset_writer_accepts area rows values out (Written n) after told).0 n refl in
+    let wrote = (rowset_writer_accepts area rows values out (Ok n) after told).0 n refl in
     let ok : Encodable area rows values = wrote.0 in
     let content : List Row = rows_in area rows values in
     let good : Writable content = content_writable area values words rows ok.few_rows ok.counts (from_front area rows values ok.entries) in
@@ -114,11 +113,11 @@ rowset_encode_then_decode area rows values out n after row_table value_table r r
     let sum : values_of s ≡ total rows = sym (total_read s (count_at s 0) 8) ∙ ap total same_rows in
     let all : length values ≡ entry_words * total rows = ok.whole in
     let room : Roomy s row_table value_table = record { for_rows = omega (arith, count); for_values = omega (arith, sum) } in
-    let answer : r ≡ Read (count_at s 0) (values_of s) = (rowset_reader_accepts s row_table value_table r rowTable' valueTable' decodes).1 accepts room in
+    let answer : r ≡ Ok record { rows = count_at s 0; values = values_of s } = (rowset_reader_accepts s row_table value_table r rowTable' valueTable' decodes).1 accepts room in
     let entries : values_of s ≡ length values / entry_words = omega (arith, sum) in
     let inOrder = rows_in_order s row_table value_table (count_at s 0) (values_of s) rowTable' valueTable' (rw answer at decodes) in
     let taken : paper_decoded r ≡ accepted 0 (count_at s 0 ∷ values_of s ∷ []) = ap paper_decoded answer in (
-      answer ∙ ap (λ (k : ℕ). Read k (values_of s)) count ∙ ap (Read (length rows)) entries,
+      answer ∙ ap (λ (k : ℕ). Ok record { rows = k; values = values_of s }) count ∙ ap (λ (k : ℕ). Ok record { rows = length rows; values = k }) entries,
       (decodes_told s row_table value_table r rowTable' valueTable' decodes).0 ∙ ap (λ (a : Answer). afterwards a (row_words s (count_at s 0) 8) row_table) taken ∙ ap (λ (ws : List ℕ). over ws row_table) same_rows,
       ap (λ (k : ℕ). rows_in s (take k rowTable') valueTable') (sym count) ∙ inOrder.4 ∙ held,
       tells ∙ rw is (written_plain content good (omega (arith, ok.small))),

@@ -23,9 +23,8 @@ use Rattle.packet_write.specs.Statement.{bytes_for}
 use Rattle.wire.specs.Layout.{rowset_bytes}
 use Rattle.wire.proofs.PaperLaws.{paper_keeps}
 use Rattle.wire_read.proofs.DecodeLaws.{decodes_told}
-use Rattle.wire_read.specs.declared.rowset.Decoded.TheVariants as decoded
+use Rattle.std.specs.declared.result.Result.TheVariants as result
 use Rattle.wire_write.proofs.EncodeLaws.{encodes_told}
-use Rattle.wire_write.specs.declared.write.Encoded.TheVariants as encoded
 use Rattle.promises.specs.TablesKeep.{PacketTablesKeep, PacketOutputKeeps, RowsetTablesKeep, RowsetOutputKeeps, TextKeeps}
 
 past : (s table : List ℕ) (a : Answer) → drop (entry_words * count s) (afterwards a (entries s) table) ≡ drop (entry_words * count s) table
@@ -50,12 +49,12 @@ packet_output_keeps mode type flags id area table out error after told =
 -- A rowset that is refused leaves both tables.
 pub rowset_tables_keep : RowsetTablesKeep
 rowset_tables_keep s rows values rows' values' refusal told =
-    let tables = decodes_told s rows values (decoded.Refused refusal) rows' values' told in
+    let tables = decodes_told s rows values (result.Err refusal) rows' values' told in
     (tables.0 ∙ paper_keeps refusal _ rows, tables.1 ∙ paper_keeps refusal _ values)
 
 -- A rowset that is not written leaves the output.
 pub rowset_output_keeps : RowsetOutputKeeps
-rowset_output_keeps area rows values out refusal after told = encodes_told area rows values out (encoded.Refused refusal) after told ∙ paper_keeps refusal (rowset_bytes area rows values) out
+rowset_output_keeps area rows values out refusal after told = encodes_told area rows values out (result.Err refusal) after told ∙ paper_keeps refusal (rowset_bytes area rows values) out
 
 -- A text that has not the room leaves the buffer.
 pub text_keeps : TextKeeps

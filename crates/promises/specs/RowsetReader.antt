@@ -1,5 +1,5 @@
 -- What the rowset reader accepts is exactly this, and 17 comes exactly where all else passes. Assumes nothing.
-use Rattle.std.specs.Prelude.{ℕ, ◌+◌, ◌/◌, ◌≤◌, ◌<◌, true, List, ◌≡◌, ◌⊎◌, length}
+use Rattle.std.specs.Prelude.{ℕ, ◌+◌, ◌/◌, ◌≤◌, ◌<◌, true, List, ◌≡◌, ◌⊎◌, length, Result, Ok, Err}
 use Rattle.wire.specs.Layout.{null_mark, max_rows, max_values, max_length, entry_words, known, blob, values_in, type_at, length_at, count_at, next_rows, next_value, next_values}
 use Rattle.words.specs.declared.outcome.NoRoom as words
 use Rattle.words.specs.declared.outcome.Room.TheVariants.{Rows, Values}
@@ -10,7 +10,7 @@ use Rattle.wire_read.specs.Reading.{end_of, values_of, reading_lines}
 use Rattle.wire_read.specs.Paper.{paper_decoded}
 use Rattle.wire_read.specs.Statement.{Decodes}
 use Rattle.wire_read.specs.declared.rowset.Decoded.{Decoded}
-use Rattle.wire_read.specs.declared.rowset.Decoded.TheVariants.{Read, Refused}
+use Rattle.wire.specs.declared.error.WireError.{WireError}
 
 -- where row i begins, and where its value j begins
 abbrev pub row_place : List ℕ → ℕ → ℕ
@@ -54,19 +54,19 @@ pub record Roomy (s rows values : List ℕ) : Type 0 where
 -- rows and values there are; it says 17 exactly where all else passes, for the rows first.
 abbrev pub RowsetReaderAccepts : Type 0
 RowsetReaderAccepts =
-    (s rows values : List ℕ) (r : Decoded) (rows' values' : List ℕ) → Decodes s rows values r rows' values'
-    → ((n m : ℕ) → r ≡ Read n m → Acceptable s × Roomy s rows values × (n ≡ count_at s 0) × (m ≡ values_of s))
-    × (Acceptable s → Roomy s rows values → r ≡ Read (count_at s 0) (values_of s))
-    × ((short : words.NoRoom) → r ≡ Refused (NoRoom short) → Acceptable s × (Roomy s rows values → ⊥))
+    (s rows values : List ℕ) (r : Result Decoded WireError) (rows' values' : List ℕ) → Decodes s rows values r rows' values'
+    → ((n m : ℕ) → r ≡ Ok record { rows = n; values = m } → Acceptable s × Roomy s rows values × (n ≡ count_at s 0) × (m ≡ values_of s))
+    × (Acceptable s → Roomy s rows values → r ≡ Ok record { rows = count_at s 0; values = values_of s })
+    × ((short : words.NoRoom) → r ≡ Err (NoRoom short) → Acceptable s × (Roomy s rows values → ⊥))
     × (Acceptable s → length rows < count_at s 0
-    → r ≡ Refused (NoRoom (record { room = Rows; needed = count_at s 0; given = length rows })))
+    → r ≡ Err (NoRoom (record { room = Rows; needed = count_at s 0; given = length rows })))
     × (Acceptable s → count_at s 0 ≤ length rows → length values / entry_words < values_of s
-    → r ≡ Refused (NoRoom (record { room = Values; needed = values_of s; given = length values / entry_words })))
+    → r ≡ Err (NoRoom (record { room = Values; needed = values_of s; given = length values / entry_words })))
 
 -- The answer is that of one line of the order, the lines before it silent; or all are silent, and the rowset is read.
 -- The same line tells what it found (document 02, A9).
 abbrev pub RowsetOrderDecides : Type 0
 RowsetOrderDecides =
-    (s rows values : List ℕ) (r : Decoded) (rows' values' : List ℕ) → Decodes s rows values r rows' values'
+    (s rows values : List ℕ) (r : Result Decoded WireError) (rows' values' : List ℕ) → Decodes s rows values r rows' values'
     → let lines = answers (reading_lines s (length rows) (length values)) in
-    Decides lines (paper_decoded r) ⊎ (Silent lines × (r ≡ Read (count_at s 0) (values_of s)))
+    Decides lines (paper_decoded r) ⊎ (Silent lines × (r ≡ Ok record { rows = count_at s 0; values = values_of s }))

@@ -1,16 +1,16 @@
 -- Statements that are near the rowset's promises and false, each refuted by an input. Assumes nothing.
-use Rattle.std.specs.Prelude.{ℕ, ◌+◌, ◌<◌, ◌≤◌, Bool, true, false, List, [], ◌∷◌, ◌++◌, ◌≡◌, length, get_or, replicate}
+use Rattle.std.specs.Prelude.{ℕ, ◌+◌, ◌<◌, ◌≤◌, Bool, true, false, List, [], ◌∷◌, ◌++◌, ◌≡◌, length, get_or, replicate, Result}
 use Rattle.words.specs.Word.{bytes_of, Bytes}
 use Rattle.wire.specs.Layout.{null_mark, max_size, count_at}
 use Rattle.wire_read.specs.Plain.{accepts, plain}
 use Rattle.wire_read.specs.Statement.{Decodes, TellsPlain}
 use Rattle.wire_read.specs.declared.rowset.Decoded.{Decoded}
-use Rattle.wire_write.specs.declared.write.Encoded.{Encoded}
 use Rattle.wire_write.specs.Statement.{Encodes}
 use Rattle.wire.specs.Content.{null}
 use Rattle.promises.specs.RowContent.{row_at, rows_of}
 use Rattle.promises.specs.RowsetReader.{row_place, Acceptable, EachValue, Roomy}
 use Rattle.promises.specs.Rowsets.{PlainAt, rows_read, values_read, WrittenBack}
+use Rattle.wire.specs.declared.error.WireError.{WireError}
 
 -- two rows: a null row and an empty one
 unfoldable pub two_rows : List ℕ
@@ -59,7 +59,7 @@ NotWithoutTheBound =
 abbrev pub Back : (List ℕ → List ℕ → List ℕ → Type 0) → (List ℕ → List ℕ → Type 0) → Type 0
 Back Tables Output =
     (s : List ℕ) (says : Bool)
-    (row_table value_table : List ℕ) (r : Decoded) (rowTable' valueTable' out : List ℕ) (w : Encoded) (after : List ℕ)
+    (row_table value_table : List ℕ) (r : Result Decoded WireError) (rowTable' valueTable' out : List ℕ) (w : Result ℕ WireError) (after : List ℕ)
     → Bytes s → TellsPlain s says
     → Tables s row_table value_table → Decodes s row_table value_table r rowTable' valueTable'
     → Output s out → Encodes s (rows_read r rowTable') (values_read r valueTable') out w after

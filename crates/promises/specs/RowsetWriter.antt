@@ -1,15 +1,14 @@
 -- What the rowset writer accepts is exactly this, and what it writes is the content's bytes. Assumes nothing.
-use Rattle.std.specs.Prelude.{ℕ, ◌+◌, ◌*◌, ◌<◌, ◌≤◌, true, false, List, [], ◌≡◌, ◌⊎◌, length, get_or}
+use Rattle.std.specs.Prelude.{ℕ, ◌+◌, ◌*◌, ◌<◌, ◌≤◌, true, false, List, [], ◌≡◌, ◌⊎◌, length, get_or, Result, Ok, Err}
 use Rattle.words.specs.Buffer.{over}
 use Rattle.wire.specs.Layout.{null_mark, max_rows, max_values, max_length, max_size, entry_words, boolean, blob, known}
 use Rattle.words.specs.declared.outcome.NoRoom as words
 use Rattle.words.specs.declared.outcome.Room.TheVariants.{Output}
 use Rattle.wire.specs.declared.error.WireError.TheVariants.{NoRoom}
 use Rattle.wire_check.specs.Writing.{id_in, type_in, aggregate_in, bits_in, length_in, total}
-use Rattle.wire_write.specs.declared.write.Encoded.{Encoded}
-use Rattle.wire_write.specs.declared.write.Encoded.TheVariants.{Written, Refused}
 use Rattle.wire_write.specs.Statement.{Encodes}
 use Rattle.wire.specs.Content.{rows_in, bytes_of_rows}
+use Rattle.wire.specs.declared.error.WireError.{WireError}
 
 -- the entry at the word k keeps rule 3 of 18 and the limit of 12
 pub record Allowed (area values : List ℕ) (k : ℕ) : Type 0 where
@@ -41,11 +40,11 @@ pub record Encodable (area rows values : List ℕ) : Type 0 where
 -- it answers is the length of the bytes; it says 17 exactly where all else passes.
 abbrev pub RowsetWriterAccepts : Type 0
 RowsetWriterAccepts =
-    (area rows values before : List ℕ) (r : Encoded) (after : List ℕ) → Encodes area rows values before r after
+    (area rows values before : List ℕ) (r : Result ℕ WireError) (after : List ℕ) → Encodes area rows values before r after
     → let size = length (table_bytes area rows values) in
-    ((n : ℕ) → r ≡ Written n → Encodable area rows values × (n ≡ size) × (size ≤ length before)
+    ((n : ℕ) → r ≡ Ok n → Encodable area rows values × (n ≡ size) × (size ≤ length before)
     × (after ≡ over (table_bytes area rows values) before))
-    × (Encodable area rows values → size ≤ length before → r ≡ Written size)
-    × ((short : words.NoRoom) → r ≡ Refused (NoRoom short) → Encodable area rows values × (length before < size))
+    × (Encodable area rows values → size ≤ length before → r ≡ Ok size)
+    × ((short : words.NoRoom) → r ≡ Err (NoRoom short) → Encodable area rows values × (length before < size))
     × (Encodable area rows values → length before < size
-    → r ≡ Refused (NoRoom (record { room = Output; needed = size; given = length before })))
+    → r ≡ Err (NoRoom (record { room = Output; needed = size; given = length before })))

@@ -1,27 +1,25 @@
 -- Demand 2 for rowsets: every row in its place. A lookup answers one row per event in the order asked, and a null row
 -- for an event without terms. If one were dropped, every later glossary would appear under the wrong title. Assumes
 -- nothing.
-use Rattle.std.specs.Prelude.{ℕ, ◌+◌, ◌*◌, ◌/◌, ◌^◌, ◌≤◌, ◌<◌, Bool, true, false, List, [], ◌≡◌, length, get_or, take, drop}
+use Rattle.std.specs.Prelude.{ℕ, ◌+◌, ◌*◌, ◌/◌, ◌^◌, ◌≤◌, ◌<◌, Bool, true, false, List, [], ◌≡◌, length, get_or, take, drop, Result, Ok, Err}
 use Rattle.words.specs.Buffer.{stretch, over}
 use Rattle.words.specs.Word.{Bytes}
 use Rattle.wire.specs.Layout.{max_size, entry_words, boolean, scalar, blob, padding, flag, values_in, type_at, aggregate_at, length_at, scalar_at, count_at, value_count, entries}
 use Rattle.wire_read.specs.Reading.{values_of}
 use Rattle.wire_read.specs.Statement.{Decodes, TellsPlain}
 use Rattle.wire_read.specs.declared.rowset.Decoded.{Decoded}
-use Rattle.wire_read.specs.declared.rowset.Decoded.TheVariants.{Read, Refused as NotRead}
-use Rattle.wire_write.specs.declared.write.Encoded.{Encoded}
-use Rattle.wire_write.specs.declared.write.Encoded.TheVariants.{Written, Refused as NotWritten}
 use Rattle.wire_write.specs.Statement.{Encodes}
 use Rattle.wire.specs.Content.{Row, null, rows_in, bytes_of_rows}
 use Rattle.promises.specs.RowContent.{row_at, rows_of, Writable}
 use Rattle.promises.specs.RowsetReader.{row_place, EachRow, EachValue, Acceptable, Roomy}
+use Rattle.wire.specs.declared.error.WireError.{WireError}
 
 -- What `decode_rowset` reads: as many rows and values as it tells; row i of the tables is what stands at row i of the
 -- input, for every i, a null row too, its word the count that stands there and its entries those of the values behind
 -- that count; together the tables hold the input's content; and the words past the entries are kept.
 abbrev pub RowsInOrder : Type 0
 RowsInOrder =
-    (s rows values : List ℕ) (n m : ℕ) (rows' values' : List ℕ) → Decodes s rows values (Read n m) rows' values'
+    (s rows values : List ℕ) (n m : ℕ) (rows' values' : List ℕ) → Decodes s rows values (Ok record { rows = n; values = m }) rows' values'
     → (n ≡ count_at s 0)
     × (m ≡ values_of s)
     × ((i : ℕ) → i < n → get_or rows' i 0 ≡ count_at s (row_place s i))
@@ -45,13 +43,13 @@ RowsetRoundTrip = (rows : List Row) → Writable rows → Acceptable (bytes_of_r
 abbrev pub RowsetEncodeThenDecode : Type 0
 RowsetEncodeThenDecode =
     (area rows values out : List ℕ) (n : ℕ) (after : List ℕ)
-    (row_table value_table : List ℕ) (r : Decoded) (rowTable' valueTable' : List ℕ) (says : Bool)
+    (row_table value_table : List ℕ) (r : Result Decoded WireError) (rowTable' valueTable' : List ℕ) (says : Bool)
     → ((i : ℕ) → get_or values i 0 < 2 ^ 64)
-    → Encodes area rows values out (Written n) after
+    → Encodes area rows values out (Ok n) after
     → length rows ≤ length row_table → length values ≤ length value_table
     → Decodes (take n after) row_table value_table r rowTable' valueTable'
     → TellsPlain (take n after) says
-    → (r ≡ Read (length rows) (length values / entry_words))
+    → (r ≡ Ok record { rows = length rows; values = length values / entry_words })
     × (rowTable' ≡ over rows row_table)
     × (rows_in (take n after) (take (length rows) rowTable') valueTable' ≡ rows_in area rows values)
     × (says ≡ true)
@@ -83,7 +81,7 @@ abbrev pub IgnoredBytes : Type 0
 IgnoredBytes =
     (s t : List ℕ) → DifferOnlyThere s t
     → (rows_of s ≡ rows_of t)
-    × ((rows values : List ℕ) (r r' : Decoded) (rows' values' rows'' values'' : List ℕ)
+    × ((rows values : List ℕ) (r r' : Result Decoded WireError) (rows' values' rows'' values'' : List ℕ)
     → Decodes s rows values r rows' values' → Decodes t rows values r' rows'' values''
     → (r ≡ r') × (rows' ≡ rows'') × (values' ≡ values''))
 
@@ -112,19 +110,19 @@ WrittenIsPlain =
     → TellsPlain (bytes_of_rows rows) says → says ≡ true
 
 -- What was read: the entries that the answer tells of the tables; where reading refused, none.
-abbrev pub rows_read : Decoded → List ℕ → List ℕ
-rows_read (Read n m) table = take n table
-rows_read (NotRead refusal) table = []
+abbrev pub rows_read : Result Decoded WireError → List ℕ → List ℕ
+rows_read (Ok read) table = take read.rows table
+rows_read (Err refusal) table = []
 
-abbrev pub values_read : Decoded → List ℕ → List ℕ
-values_read (Read n m) table = take (entry_words * m) table
-values_read (NotRead refusal) table = []
+abbrev pub values_read : Result Decoded WireError → List ℕ → List ℕ
+values_read (Ok read) table = take (entry_words * read.values) table
+values_read (Err refusal) table = []
 
 -- it was read, it was written, and the bytes written are the input
-abbrev pub WrittenBack : List ℕ → Decoded → Encoded → List ℕ → Type 0
-WrittenBack s (Read n m) (Written size) after = take size after ≡ s
-WrittenBack s (Read n m) (NotWritten refusal) after = ⊥
-WrittenBack s (NotRead refusal) written after = ⊥
+abbrev pub WrittenBack : List ℕ → Result Decoded WireError → Result ℕ WireError → List ℕ → Type 0
+WrittenBack s (Ok read) (Ok size) after = take size after ≡ s
+WrittenBack s (Ok read) (Err refusal) after = ⊥
+WrittenBack s (Err refusal) written after = ⊥
 
 -- Document 02, A2: "the check says yes exactly when the input equals what the writer produces for the rows read from
 -- it". The reader has tables with the room, the writer is given what was read, the input as its area, and an output
@@ -132,7 +130,7 @@ WrittenBack s (NotRead refusal) written after = ⊥
 abbrev pub PlainIsWhatTheWriterWrites : Type 0
 PlainIsWhatTheWriterWrites =
     (s : List ℕ) (says : Bool)
-    (row_table value_table : List ℕ) (r : Decoded) (rowTable' valueTable' out : List ℕ) (w : Encoded) (after : List ℕ)
+    (row_table value_table : List ℕ) (r : Result Decoded WireError) (rowTable' valueTable' out : List ℕ) (w : Result ℕ WireError) (after : List ℕ)
     → Bytes s → TellsPlain s says
     → Roomy s row_table value_table → Decodes s row_table value_table r rowTable' valueTable'
     → length s ≤ length out → Encodes s (rows_read r rowTable') (values_read r valueTable') out w after

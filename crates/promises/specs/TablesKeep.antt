@@ -20,8 +20,7 @@ use Rattle.packet_write.specs.declared.Encoded.TheVariants as packets
 use Rattle.packet_write.specs.Statement.{Encodes}
 use Rattle.wire.specs.declared.error.WireError.{WireError}
 use Rattle.wire_read.specs.Statement as rowset
-use Rattle.wire_read.specs.declared.rowset.Decoded.TheVariants as decoded
-use Rattle.wire_write.specs.declared.write.Encoded.TheVariants as rowsets
+use Rattle.std.specs.declared.result.Result.TheVariants as result
 use Rattle.wire_write.specs.Statement as rowset-write
 
 -- the reader of packets: what is not taken leaves the table, and what is taken leaves the words past its entries
@@ -42,13 +41,13 @@ PacketOutputKeeps =
 abbrev pub RowsetTablesKeep : Type 0
 RowsetTablesKeep =
     (s rows values rows' values' : List ℕ) (refusal : WireError)
-    → rowset.Decodes s rows values (decoded.Refused refusal) rows' values' → (rows' ≡ rows) × (values' ≡ values)
+    → rowset.Decodes s rows values (result.Err refusal) rows' values' → (rows' ≡ rows) × (values' ≡ values)
 
 -- the writer of rowsets
 abbrev pub RowsetOutputKeeps : Type 0
 RowsetOutputKeeps =
     (area rows values out : List ℕ) (refusal : WireError) (after : List ℕ)
-    → rowset-write.Encodes area rows values out (rowsets.Refused refusal) after → after ≡ out
+    → rowset-write.Encodes area rows values out (result.Err refusal) after → after ≡ out
 
 -- the printer of GUIDs
 abbrev pub TextKeeps : Type 0

@@ -10,7 +10,8 @@ use Rattle.finding.specs.Meaning.{meaning}
 use Rattle.finding.specs.declared.Finding.{Finding}
 use Rattle.why_rowset.specs.Stages.{firstly, Keeps, Quiet, Tell, Goes}
 use Rattle.why_rowset.specs.declared.walk.Walked.{Walked}
-use Rattle.why_rowset.specs.declared.walk.Walked.TheVariants.{At, Found}
+use Rattle.std.specs.declared.result.Result.{Result}
+use Rattle.std.specs.declared.result.Result.TheVariants.{Ok, Err}
 
 -- nothing to be told behind
 pub firstly_fine : (a : Saying) → firstly a fine ≡ a
@@ -34,10 +35,10 @@ module _ (xs ys : List (Line Told)) where
       second rest ∙ first (decide ys rest) ∙ ap (λ (t : Told). firstly (meaning before) (saying t)) (sym (decide_append xs ys rest))
 
 module _ (s : List ℕ) (xs ys ps qs : List (Line Told)) (mid next : ℕ) (before : Finding) where
-  pub goes_stop : (finding : Finding) → Goes s xs ps mid before (Found finding) → Goes s (xs ++ ys) (ps ++ qs) next before (Found finding)
+  pub goes_stop : (finding : Finding) → Goes s xs ps mid before (Err finding) → Goes s (xs ++ ys) (ps ++ qs) next before (Err finding)
   goes_stop finding tells = tell_first xs ys finding tells
 
-  pub goes_then : (at : ℕ) (between : Finding) (r : Walked) → Goes s xs ps mid before (At at between) → Goes s ys qs next between r → Goes s (xs ++ ys) (ps ++ qs) next before r
-  goes_then at between (At at' after) first second =
-      (second.0, second.1, quiet_then xs ys first.2 second.2, keeps_then ps qs before between after first.3 second.3)
-  goes_then at between (Found finding) first second = tell_then xs ys finding first.2 second
+  pub goes_then : (at : ℕ) (between : Finding) (r : Result Walked Finding) → Goes s xs ps mid before (Ok record { next = at; plain = between }) → Goes s ys qs next between r → Goes s (xs ++ ys) (ps ++ qs) next before r
+  goes_then at between (Ok w) first second =
+      (second.0, second.1, quiet_then xs ys first.2 second.2, keeps_then ps qs before between w.plain first.3 second.3)
+  goes_then at between (Err finding) first second = tell_then xs ys finding first.2 second

@@ -1,15 +1,18 @@
 -- The first line of the plain form that holds in a value. Assumes nothing.
 use Prim.Native.Nat.{ℕ, zero, suc, ◌+◌, ◌-◌, ◌<◌, ◌≤◌}
-use mathlib.Core.Path.{◌≡◌, refl, sym, ◌∙◌, ap}
-use mathlib.Core.Bool.{Bool, true, false, not, ◌&&◌}
-use mathlib.Core.List.{List, [], ◌∷◌, ◌++◌}
+use mathlib.Core.Path.{◌≡◌, refl}
+use mathlib.Core.Bool.{false}
+use mathlib.Core.List.{List, ◌∷◌}
 use native.Mathlib.Omega.{arith}
-use lib.Dec.{ltb, eqb}
 use lib.ListN.{length, get_or}
 use borrow.Author.Tests.{lt-ltb, le-ltb, eq-eqb, ne_eqb}
-use Rattle.words.specs.Decide.{Line, ◌⇒◌, ◌≠?◌}
-use Rattle.words.specs.Note.{Told}
-use Rattle.wire.specs.Layout.{null_type, boolean, scalar, blob, padding, padded, type_at, aggregate_at, length_at, scalar_at, next_value}
+use Rattle.words.specs.Decide.{◌⇒◌, ◌≠?◌}
+use Rattle.wire.specs.Layout.{boolean, blob, padding, padded, type_at, aggregate_at, length_at, scalar_at, next_value}
+use mathlib.Core.Logic.{◌⊎◌, inl, inr}
+use Rattle.wire.specs.Kind.{kind_of}
+use Rattle.wire.specs.declared.kind.Kind.{Kind}
+use Rattle.wire.specs.declared.kind.Kind.TheVariants as K
+use Rattle.wire.proofs.KindLaws.{kind_null, kind_scalar, kind_unknown}
 use Rattle.wire.proofs.TypeLaws.{blob_yes, blob_low, payload_blob}
 use Rattle.wire_value.specs.ValueOf.{header_at}
 use Rattle.wire_value.specs.declared.value.Header.{Header}
@@ -88,11 +91,13 @@ module _ (s : List ℕ) (at : ℕ) (header : Header) (is : header ≡ header_at 
         rw (← aggregate_is, le-ltb 1 header.aggregate one, ← kind_is, blob_yes header.kind low high, ne_eqb header.kind boolean (λ h. omega arith), ← length_is) (told rest)
 
   -- which kinds are no blobs
-  pub no_blob : header.kind < 7 → blob (type_at s at) ≡ false
+  no_blob : header.kind < 7 → blob (type_at s at) ≡ false
   no_blob h = rw (← kind_is) (blob_low header.kind (omega arith))
 
-  pub unknown_blob : blob header.kind ≡ false → blob (type_at s at) ≡ false
-  unknown_blob h = rw (← kind_is) h
+  pub other_blob : (k : Kind) → k ≡ kind_of header.kind → (k ≡ K.Null) ⊎ ((k ≡ K.Scalar) ⊎ (k ≡ K.Unknown)) → blob (type_at s at) ≡ false
+  other_blob k e (inl is) = let null = kind_null header.kind k e is in no_blob (omega (arith, null))
+  other_blob k e (inr (inl is)) = no_blob (kind_scalar header.kind k e is).1
+  other_blob k e (inr (inr is)) = let none = (kind_unknown header.kind k e is).2 in rw (← kind_is) none
 
   -- where a blob's padding lies
   pub blob_ends : 15 < header.kind → header.kind < 19 → next_value s at ≡ at + 8 + padded header.length

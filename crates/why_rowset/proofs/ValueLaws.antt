@@ -1,6 +1,6 @@
 -- What a value's checks tell, by the check that decides. Assumes nothing.
 use Prim.Native.Nat.{ℕ, ◌+◌, ◌-◌, ◌<◌, ◌≤◌}
-use mathlib.Core.Path.{◌≡◌, refl, sym, ◌∙◌, ap}
+use mathlib.Core.Path.{◌≡◌}
 use mathlib.Core.Bool.{true, false, ◌&&◌}
 use mathlib.Core.List.{List}
 use native.Mathlib.Omega.{arith}
@@ -12,7 +12,7 @@ use Rattle.wire.specs.Layout.{null_type, max_length, known, blob, padded, payloa
 use Rattle.wire.specs.Need.{lacks}
 use Rattle.wire.proofs.TypeLaws.{blob_yes, blob_low, known_blob}
 use Rattle.wire_value.specs.ValueOf.{header_at}
-use Rattle.wire_value.specs.ValueOrder.{payload_name, value_lines}
+use Rattle.wire_value.specs.ValueOrder.{payload_name}
 use Rattle.wire_value.specs.declared.value.Header.{Header}
 use Rattle.wire_value.proofs.HeaderLaws.{header_kind, header_length}
 use Rattle.wire_value.proofs.OrderLaws.{expects_null, expects_scalar, expects_blob}
@@ -20,11 +20,11 @@ use Rattle.finding.specs.Saying.{refusing}
 use Rattle.finding.specs.Meaning.{name_of, meaning}
 use Rattle.finding.specs.declared.Field.{Field}
 use Rattle.finding.specs.declared.Finding.{Finding}
-use Rattle.why_rowset.specs.Stages.{Tell, Asks, Checks}
-use Rattle.why_rowset.specs.declared.value.Checked.TheVariants.{Passed, Found}
+use Rattle.why_rowset.specs.Stages.{Asks, Checks}
+use Rattle.std.specs.declared.result.Result.TheVariants.{Ok, Err}
 
 -- the header is not there
-pub header_short : (s : List ℕ) (at : ℕ) (f : Finding) → length s - at < 8 → meaning f ≡ refusing 9 "value-header" at (length s - at) (number 8) → Checks s at (Found f)
+pub header_short : (s : List ℕ) (at : ℕ) (f : Finding) → length s - at < 8 → meaning f ≡ refusing 9 "value-header" at (length s - at) (number 8) → Checks s at (Err f)
 header_short s at f short told rest = rw (lt-ltb (length s - at) 8 short) told
 
 -- it is, and its fields are given
@@ -38,11 +38,11 @@ module _ (s : List ℕ) (at : ℕ) (header : Header) (is : header ≡ header_at 
   there : lacks s at 8 ≡ false
   there = le-ltb (length s - at) 8 (omega arith)
 
-  pub type_unknown : (f : Finding) → known header.kind ≡ false → meaning f ≡ refusing 14 "type" (at + 2) header.kind (one_of "2-6,16-18") → Checks s at (Found f)
+  pub type_unknown : (f : Finding) → known header.kind ≡ false → meaning f ≡ refusing 14 "type" (at + 2) header.kind (one_of "2-6,16-18") → Checks s at (Err f)
   type_unknown f unknown told rest = rw (there, ← kind_is, unknown) told
 
   pub blob_long : (f : Finding) → 15 < header.kind → header.kind < 19 → max_length < header.length
-      → meaning f ≡ refusing 12 "length" (at + 4) header.length (number max_length) → Checks s at (Found f)
+      → meaning f ≡ refusing 12 "length" (at + 4) header.length (number max_length) → Checks s at (Err f)
   blob_long f low high long told rest =
       rw (there, ← kind_is, known_blob header.kind low high, blob_yes header.kind low high, ← length_is, lt-ltb max_length header.length long) told
 
@@ -63,11 +63,11 @@ module _ (s : List ℕ) (at : ℕ) (header : Header) (is : header ≡ header_at 
 
   -- it is not there, or it is
   module _ (field : Field) (size : ℕ) (asks : Asks s at size) (named : name_of field ≡ payload_name (type_at s at)) where
-    pub payload_short : (f : Finding) → length s - (at + 8) < size → meaning f ≡ refusing 9 (name_of field) (at + 8) (length s - (at + 8)) (number size) → Checks s at (Found f)
+    pub payload_short : (f : Finding) → length s - (at + 8) < size → meaning f ≡ refusing 9 (name_of field) (at + 8) (length s - (at + 8)) (number size) → Checks s at (Err f)
     payload_short f short told rest =
         rw (there, asks.0, asks.1, asks.2, ← named, lt-ltb (length s - (at + 8)) size short) told
 
-    pub payload_passes : size ≤ length s - (at + 8) → Checks s at (Passed header (at + 8 + size))
+    pub payload_passes : size ≤ length s - (at + 8) → Checks s at (Ok record { header = header; next = at + 8 + size })
     unfolding next_value
     payload_passes enough =
         (is, rw asks.2, omega arith, (λ rest. rw (there, asks.0, asks.1, asks.2, le-ltb (length s - (at + 8)) size enough)))

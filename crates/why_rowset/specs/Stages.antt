@@ -1,7 +1,7 @@
 -- What the private stages hand on: nobody has to believe it. A stage decides some lines of the reader's order: what it
 -- finds is what they tell, whatever stands behind them; where it goes on they are silent, and the first line of the
 -- plain form that holds so far is kept. Assumes nothing.
-use Rattle.std.specs.Prelude.{ℕ, ◌+◌, ◌≤◌, ◌≡◌, true, false, ◌&&◌, List, [], ◌∷◌, ◌++◌, length}
+use Rattle.std.specs.Prelude.{ℕ, ◌+◌, ◌≤◌, ◌≡◌, true, false, ◌&&◌, List, [], ◌∷◌, ◌++◌, length, Result, Ok, Err}
 use Rattle.words.specs.Decide.{Line, ◌⇒◌, decide, ◌<?◌, ◌=?◌, ◌≠?◌}
 use Rattle.words.specs.Note.{Told}
 use Rattle.words.specs.Paper.{outcome}
@@ -16,10 +16,8 @@ use Rattle.finding.specs.Meaning.{meaning}
 use Rattle.finding.specs.declared.Finding.{Finding}
 use Rattle.finding.specs.declared.Finding.TheVariants.{Fine}
 use Rattle.why_rowset.specs.Plain.{breaks, plain_value_lines, plain_values_lines, plain_rows_lines, plain_lines}
-use Rattle.why_rowset.specs.declared.value.Checked.{Checked}
-use Rattle.why_rowset.specs.declared.value.Checked.TheVariants as Checked
+use Rattle.wire_value.specs.declared.value.Checked.{Checked}
 use Rattle.why_rowset.specs.declared.walk.Walked.{Walked}
-use Rattle.why_rowset.specs.declared.walk.Walked.TheVariants.{At, Found}
 
 -- a refusal's number
 abbrev pub number_of : WireError → ℕ
@@ -66,33 +64,33 @@ Asks s at size =
     × (payload_at s at ≡ size)
 
 -- the checks of the value at `at`
-abbrev pub Checks : List ℕ → ℕ → Checked → Type 0
-Checks s at (Checked.Passed header next) =
-    (header ≡ header_at s at) × (next ≡ next_value s at) × (next ≤ length s) × Quiet (value_lines s at)
-Checks s at (Checked.Found finding) = Tell (value_lines s at) finding
+abbrev pub Checks : List ℕ → ℕ → Result Checked Finding → Type 0
+Checks s at (Ok v) =
+    (v.header ≡ header_at s at) × (v.next ≡ next_value s at) × (v.next ≤ length s) × Quiet (value_lines s at)
+Checks s at (Err finding) = Tell (value_lines s at) finding
 
 -- a stretch of the walk: its checks, the plain form's lines, and where it ends
-abbrev pub Goes : List ℕ → List (Line Told) → List (Line Told) → ℕ → Finding → Walked → Type 0
-Goes s checks plain next before (At at after) = (at ≡ next) × (at ≤ length s) × Quiet checks × Keeps plain before after
-Goes s checks plain next before (Found finding) = Tell checks finding
+abbrev pub Goes : List ℕ → List (Line Told) → List (Line Told) → ℕ → Finding → Result Walked Finding → Type 0
+Goes s checks plain next before (Ok w) = (w.next ≡ next) × (w.next ≤ length s) × Quiet checks × Keeps plain before w.plain
+Goes s checks plain next before (Err finding) = Tell checks finding
 
-abbrev pub WalksValue : List ℕ → ℕ → Finding → Walked → Type 0
+abbrev pub WalksValue : List ℕ → ℕ → Finding → Result Walked Finding → Type 0
 WalksValue s at before r = Goes s (value_lines s at) (plain_value_lines s at) (next_value s at) before r
 
-abbrev pub WalksValues : List ℕ → ℕ → ℕ → Finding → Walked → Type 0
+abbrev pub WalksValues : List ℕ → ℕ → ℕ → Finding → Result Walked Finding → Type 0
 WalksValues s n at before r = Goes s (values_lines s n at) (plain_values_lines s n at) (next_values s n at) before r
 
-abbrev pub WalksRow : List ℕ → ℕ → ℕ → Finding → Walked → Type 0
+abbrev pub WalksRow : List ℕ → ℕ → ℕ → Finding → Result Walked Finding → Type 0
 WalksRow s i at before r =
     let n = values_in (count_at s at) in
     Goes s (count_lines s i at ++ values_lines s n (at + 8)) (plain_values_lines s n (at + 8)) (next_row s at) before r
 
 -- n rows from `at` on, the first of them being the row number i
-abbrev pub WalksRowsFrom : List ℕ → ℕ → ℕ → ℕ → Finding → Walked → Type 0
+abbrev pub WalksRowsFrom : List ℕ → ℕ → ℕ → ℕ → Finding → Result Walked Finding → Type 0
 WalksRowsFrom s n i at before r = Goes s (rows_lines s n i at) (plain_rows_lines s n at) (next_rows s n at) before r
 
-abbrev pub WalksRows : List ℕ → ℕ → Walked → Type 0
+abbrev pub WalksRows : List ℕ → ℕ → Result Walked Finding → Type 0
 WalksRows s n r = WalksRowsFrom s n 0 8 Fine r
 
-abbrev pub WalksRowset : List ℕ → Walked → Type 0
+abbrev pub WalksRowset : List ℕ → Result Walked Finding → Type 0
 WalksRowset s r = Goes s (input_lines s) (plain_lines s) (end_of s) Fine r

@@ -5,7 +5,7 @@
 ghost use Rattle.why_rowset.specs.Checks.{ExplainsRowset};
 
 use finding::Finding;
-use walk::{Walked, walk_rowset};
+use walk::walk_rowset;
 
 mod plain;
 mod value;
@@ -16,7 +16,7 @@ pub fn explain(input: &[u8]) -> Finding
     ensures { ExplainsRowset input.now result }
 {
     match walk_rowset(input) {
-        Walked::Found(finding) => finding,
-        Walked::At(_, plain) => plain,
+        Err(finding) => finding,
+        Ok(walked) => walked.plain,
     }
 }

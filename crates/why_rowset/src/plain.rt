@@ -21,9 +21,7 @@ fn padding(input: &[u8], start: usize, count: usize) -> Finding
     requires { start + count ≤ length input.now }
     ensures { Finds (padding_lines input.now count start) result }
 {
-    let mut left = count;
-    let mut at = start;
-    while 0 < left {
+    for at in start..start + count {
         let byte = input[at];
         if byte != 0 {
             return Finding::NotPlain {
@@ -33,8 +31,6 @@ fn padding(input: &[u8], start: usize, count: usize) -> Finding
                 wanted: Wanted::Number(0),
             };
         }
-        at += 1;
-        left -= 1;
     }
     Finding::Fine
 }
@@ -82,9 +78,7 @@ fn value(input: &[u8], at: usize, header: Header) -> Finding
         };
     }
     match kind_of(header.kind as u64) {
-        Kind::Null => words(input, at, header),
-        Kind::Scalar => words(input, at, header),
-        Kind::Unknown => words(input, at, header),
+        Kind::Null | Kind::Scalar | Kind::Unknown => words(input, at, header),
         Kind::Blob => {
             let length = header.length as usize;
             padding(
@@ -103,22 +97,6 @@ pub(crate) fn kept(input: &[u8], at: usize, header: Header, before: Finding) -> 
 {
     match before {
         Finding::Fine => value(input, at, header),
-        Finding::More {
-            field: _,
-            length: _,
-        } => before,
-        Finding::Refused {
-            number: _,
-            field: _,
-            offset: _,
-            found: _,
-            wanted: _,
-        } => before,
-        Finding::NotPlain {
-            field: _,
-            offset: _,
-            found: _,
-            wanted: _,
-        } => before,
+        _ => before,
     }
 }

@@ -11,22 +11,16 @@ ghost use Rattle.why_rowset.specs.Stages.{number_of, Asks, Checks, WalksValue};
 use super::plain::kept;
 use super::walk::Walked;
 use finding::{Field, Finding, Wanted};
-use wire::error::{WireError, outcome};
+use wire::error::WireError;
 use wire::kind::{Kind, kind_of};
 use wire::layout::{MAX_VALUE_LENGTH, WORD_SIZE, padded};
-use wire_value::value::{Header, read_header};
+use wire_value::value::{Checked, Header, read_header};
+use words::outcome::Outcome;
 
 // Where the type and the length word stand in a value.
 const TYPE_AT: usize = 2;
 
 const LENGTH_AT: usize = 4;
-
-#[derive(Clone, Copy)]
-pub(crate) enum Checked {
-    // The header, and where the next value begins.
-    Passed(Header, usize),
-    Found(Finding),
-}
 
 // A refusal at a field.
 pub(crate) fn refused(
@@ -38,7 +32,7 @@ pub(crate) fn refused(
 ) -> Finding
     ensures { meaning result ≡ refusing (number_of error) (name_of field) offset found (wanted_of wanted) }
 {
-    let told = outcome(error);
+    let told = Outcome::from(error);
     Finding::Refused {
         number: told.number,
         field,
@@ -66,25 +60,34 @@ pub(crate) fn short(field: Field, offset: usize, there: usize, wanted: usize) ->
 }
 
 // The payload of so many bytes: it is there, or 9.
-fn check_bytes(input: &[u8], at: usize, header: Header, field: Field, size: usize) -> Checked
+fn check_bytes(
+    input: &[u8],
+    at: usize,
+    header: Header,
+    field: Field,
+    size: usize,
+) -> Result<Checked, Finding>
     requires { (at + 8 ≤ length input.now) × (header ≡ header_at input.now at) × Asks input.now at size
         × (name_of field ≡ payload_name (type_at input.now at)) }
     ensures { Checks input.now at result }
 {
     let there = input.len() - (at + WORD_SIZE);
     if there < size {
-        return Checked::Found(short(field, at + WORD_SIZE, there, size));
+        return Err(short(field, at + WORD_SIZE, there, size));
     }
-    Checked::Passed(header, at + WORD_SIZE + size)
+    Ok(Checked {
+        header,
+        next: at + WORD_SIZE + size,
+    })
 }
 
 // The checks after the header: 14, 12, then the payload.
-fn check_payload(input: &[u8], at: usize, header: Header) -> Checked
+fn check_payload(input: &[u8], at: usize, header: Header) -> Result<Checked, Finding>
     requires { (at + 8 ≤ length input.now) × (header ≡ header_at input.now at) }
     ensures { Checks input.now at result }
 {
     match kind_of(header.kind as u64) {
-        Kind::Unknown => Checked::Found(refused(
+        Kind::Unknown => Err(refused(
             WireError::UnknownValueType(header.kind),
             Field::TypeCode,
             at + TYPE_AT,
@@ -96,7 +99,7 @@ fn check_payload(input: &[u8], at: usize, header: Header) -> Checked
         Kind::Blob => {
             let length = header.length;
             if MAX_VALUE_LENGTH < length {
-                return Checked::Found(refused(
+                return Err(refused(
                     WireError::ValueTooLong { length },
                     Field::Length,
                     at + LENGTH_AT,
@@ -110,24 +113,25 @@ fn check_payload(input: &[u8], at: usize, header: Header) -> Checked
 }
 
 // The checks of the value at `at`, in their order.
-fn check(input: &[u8], at: usize) -> Checked
+fn check(input: &[u8], at: usize) -> Result<Checked, Finding>
     requires { at ≤ length input.now }
     ensures { Checks input.now at result }
 {
     let there = input.len() - at;
     if there < WORD_SIZE {
-        return Checked::Found(short(Field::ValueHeader, at, there, WORD_SIZE));
+        return Err(short(Field::ValueHeader, at, there, WORD_SIZE));
     }
     check_payload(input, at, read_header(input, at))
 }
 
 // The value at `at`: what is found, or where it ends and what broke the plain form so far.
-pub(crate) fn walk_value(input: &[u8], at: usize, plain: Finding) -> Walked
+pub(crate) fn walk_value(input: &[u8], at: usize, plain: Finding) -> Result<Walked, Finding>
     requires { at ≤ length input.now }
     ensures { WalksValue input.now at plain result }
 {
-    match check(input, at) {
-        Checked::Found(finding) => Walked::Found(finding),
-        Checked::Passed(header, next) => Walked::At(next, kept(input, at, header, plain)),
-    }
+    let Checked { header, next } = check(input, at)?;
+    Ok(Walked {
+        next,
+        plain: kept(input, at, header, plain),
+    })
 }

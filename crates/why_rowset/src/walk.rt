@@ -8,51 +8,48 @@ use wire::error::WireError;
 use wire::layout::{MAX_ROWS_PER_ROWSET, MAX_VALUES_PER_ROW, NULL_ROW_MARKER, WORD_SIZE};
 use word_read::read_u64;
 
+// Where a walk comes to.
 #[derive(Clone, Copy)]
-pub(crate) enum Walked {
-    // The next offset, and what broke the plain form first so far.
-    At(usize, Finding),
-    Found(Finding),
+pub(crate) struct Walked {
+    // Where the next read begins.
+    pub(crate) next: usize,
+    // What broke the plain form first so far.
+    pub(crate) plain: Finding,
 }
 
 // So many values, front to back.
-fn walk_values(input: &[u8], count: usize, start: usize, before: Finding) -> Walked
+fn walk_values(input: &[u8], count: usize, start: usize, before: Finding) -> Result<Walked, Finding>
     requires { start ≤ length input.now }
     ensures { WalksValues input.now count start before result }
 {
-    let mut left = count;
     let mut at = start;
     let mut plain = before;
-    while 0 < left {
-        match walk_value(input, at, plain) {
-            Walked::Found(finding) => {
-                return Walked::Found(finding);
-            }
-            Walked::At(next, now) => {
-                at = next;
-                plain = now;
-                left -= 1;
-            }
-        }
+    for _n in 0..count {
+        let walked = walk_value(input, at, plain)?;
+        at = walked.next;
+        plain = walked.plain;
     }
-    Walked::At(at, plain)
+    Ok(Walked { next: at, plain })
 }
 
 // The count of a row and its values: 9, 11, then the values'.
-fn walk_row(input: &[u8], row: usize, at: usize, plain: Finding) -> Walked
+fn walk_row(input: &[u8], row: usize, at: usize, plain: Finding) -> Result<Walked, Finding>
     requires { at ≤ length input.now }
     ensures { WalksRow input.now row at plain result }
 {
     let there = input.len() - at;
     if there < WORD_SIZE {
-        return Walked::Found(short(Field::ValueCount, at, there, WORD_SIZE));
+        return Err(short(Field::ValueCount, at, there, WORD_SIZE));
     }
     let count = read_u64(input, at);
     if count == NULL_ROW_MARKER {
-        return Walked::At(at + WORD_SIZE, plain);
+        return Ok(Walked {
+            next: at + WORD_SIZE,
+            plain,
+        });
     }
     if MAX_VALUES_PER_ROW < count {
-        return Walked::Found(refused(
+        return Err(refused(
             WireError::TooManyValues { row, count },
             Field::ValueCount,
             at,
@@ -63,36 +60,29 @@ fn walk_row(input: &[u8], row: usize, at: usize, plain: Finding) -> Walked
     walk_values(input, count as usize, at + WORD_SIZE, plain)
 }
 
-fn walk_rows(input: &[u8], count: usize) -> Walked
+// So many rows, behind the row count.
+fn walk_rows(input: &[u8], count: usize) -> Result<Walked, Finding>
     requires { 8 ≤ length input.now }
     ensures { WalksRows input.now count result }
 {
-    let mut row = 0;
     let mut at = WORD_SIZE;
     let mut plain = Finding::Fine;
-    while row < count {
-        match walk_row(input, row, at, plain) {
-            Walked::Found(finding) => {
-                return Walked::Found(finding);
-            }
-            Walked::At(next, now) => {
-                at = next;
-                plain = now;
-                row += 1;
-            }
-        }
+    for row in 0..count {
+        let walked = walk_row(input, row, at, plain)?;
+        at = walked.next;
+        plain = walked.plain;
     }
-    Walked::At(at, plain)
+    Ok(Walked { next: at, plain })
 }
 
 // What stands behind the row count: 10, the rows, and 15 at the end.
-fn walk_body(input: &[u8]) -> Walked
+fn walk_body(input: &[u8]) -> Result<Walked, Finding>
     requires { 8 ≤ length input.now }
     ensures { WalksRowset input.now result }
 {
     let count = read_u64(input, 0);
     if MAX_ROWS_PER_ROWSET < count {
-        return Walked::Found(refused(
+        return Err(refused(
             WireError::TooManyRows { count },
             Field::RowCount,
             0,
@@ -100,31 +90,28 @@ fn walk_body(input: &[u8]) -> Walked
             Wanted::Number(MAX_ROWS_PER_ROWSET),
         ));
     }
-    match walk_rows(input, count as usize) {
-        Walked::Found(finding) => Walked::Found(finding),
-        Walked::At(end, plain) => {
-            if end < input.len() {
-                let left = input.len() - end;
-                return Walked::Found(refused(
-                    WireError::TrailingBytes(left),
-                    Field::TrailingBytes,
-                    end,
-                    left as u64,
-                    Wanted::Number(0),
-                ));
-            }
-            Walked::At(end, plain)
-        }
+    let walked = walk_rows(input, count as usize)?;
+    let end = walked.next;
+    if end < input.len() {
+        let left = input.len() - end;
+        return Err(refused(
+            WireError::TrailingBytes(left),
+            Field::TrailingBytes,
+            end,
+            left as u64,
+            Wanted::Number(0),
+        ));
     }
+    Ok(walked)
 }
 
 // Every check of an input, and what breaks the plain form first where all of them pass.
-pub(crate) fn walk_rowset(input: &[u8]) -> Walked
+pub(crate) fn walk_rowset(input: &[u8]) -> Result<Walked, Finding>
     ensures { WalksRowset input.now result }
 {
     let there = input.len();
     if there < WORD_SIZE {
-        return Walked::Found(short(Field::RowCount, 0, there, WORD_SIZE));
+        return Err(short(Field::RowCount, 0, there, WORD_SIZE));
     }
     walk_body(input)
 }

@@ -13,15 +13,17 @@ use Rattle.wire.proofs.Unique.{need_at_unique}
 use Rattle.wire_value.specs.Statement.{ReadsValue}
 use Rattle.wire_value.proofs.Unique.{read_value_unique}
 use Rattle.wire_reader.specs.Statement.{paper_word, ReadsU64}
-use Rattle.wire_reader.specs.declared.ReadWord.{ReadWord}
-use Rattle.wire_reader.specs.declared.ReadWord.TheVariants.{Got, Refused}
+use Rattle.wire.specs.declared.error.WireError.{WireError}
+use Rattle.std.specs.declared.result.Result.{Result}
+use Rattle.std.specs.declared.result.Result.TheVariants.{Ok, Err}
+use Rattle.wire_reader.specs.declared.Word.{Word}
 
-abbrev word_of : Answer → ReadWord
-word_of a = refusal_back (λ next fields. Got (get_or fields 0 0) next) Refused a
+abbrev word_of : Answer → Result Word WireError
+word_of a = refusal_back (λ next fields. Ok record { value = get_or fields 0 0; next = next }) Err a
 
-word_back : (r : ReadWord) → word_of (paper_word r) ≡ r
-word_back (Got n next) = refl
-word_back (Refused refusal) = refusal_back_lem (λ next fields. Got (get_or fields 0 0) next) Refused refusal
+word_back : (r : Result Word WireError) → word_of (paper_word r) ≡ r
+word_back (Ok w) = refl
+word_back (Err refusal) = refusal_back_lem (λ next fields. Ok record { value = get_or fields 0 0; next = next }) Err refusal
 
 pub read_u64_at_unique : (s : List ℕ) (at : ℕ) → OneResult (ReadsU64 s at)
 read_u64_at_unique s at = means_one paper_word word_of word_back (needing s at 8 (accepted (at + 8) (word 8 s at ∷ [])))

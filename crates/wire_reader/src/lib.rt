@@ -9,8 +9,8 @@ ghost use Rattle.wire_reader.specs.Statement.{ReadsU64};
 
 use wire::error::WireError;
 use wire::layout::WORD_SIZE;
-use wire::need::{Needed, need_at};
-use wire_value::value::{ReadValue, read_value};
+use wire::need::need_at;
+use wire_value::value::{UnversionedValue, read_value};
 use word_read::read_u64;
 
 // The input, and where the next read begins.
@@ -20,40 +20,42 @@ pub struct Reader<'a> {
     pub offset: usize,
 }
 
+// A word that was read.
 #[derive(Clone, Copy)]
-pub enum ReadWord {
-    // The word, and where the next read begins.
-    Got(u64, usize),
-    Refused(WireError),
+pub struct Word {
+    pub value: u64,
+    // Where the next read begins.
+    pub next: usize,
 }
 
 // The word of eight bytes at `offset`, and where the next read begins.
-pub fn read_u64_at(input: &[u8], offset: usize) -> ReadWord
+pub fn read_u64_at(input: &[u8], offset: usize) -> Result<Word, WireError>
     ensures { ReadsU64 input.now offset result }
 {
-    match need_at(input, offset, WORD_SIZE) {
-        Needed::Short(refusal) => ReadWord::Refused(refusal),
-        Needed::Enough => ReadWord::Got(read_u64(input, offset), offset + WORD_SIZE),
-    }
+    need_at(input, offset, WORD_SIZE)?;
+    Ok(Word {
+        value: read_u64(input, offset),
+        next: offset + WORD_SIZE,
+    })
 }
 
 impl<'a> Reader<'a> {
     // Whether `count` bytes are left.
-    pub fn need(self, count: usize) -> Needed
+    pub fn need(self, count: usize) -> Result<(), WireError>
         ensures { Needs self.entry.input.now self.entry.offset count result }
     {
         need_at(self.input, self.offset, count)
     }
 
     // The next word.
-    pub fn read_u64(self) -> ReadWord
+    pub fn read_u64(self) -> Result<Word, WireError>
         ensures { ReadsU64 self.entry.input.now self.entry.offset result }
     {
         read_u64_at(self.input, self.offset)
     }
 
     // The next value.
-    pub fn read_value(self) -> ReadValue
+    pub fn read_value(self) -> Result<UnversionedValue, WireError>
         ensures { ReadsValue self.entry.input.now self.entry.offset result }
     {
         read_value(self.input, self.offset)

@@ -3,7 +3,6 @@ use mathlib.Core.Path.{sym, ◌∙◌}
 use mathlib.Core.Bool.{true, false}
 use Rattle.wire.specs.Layout.{blob}
 use mathlib.Core.Path.{◌≡◌}
-use borrow.Author.Tests.{not-true, not-false}
 use borrow.Author.Rules.{rules}
 use Rattle.pack_answer.proofs.entry.is_stored.Statement.{statement}
 use Rattle.pack_answer.proofs.entry.is_stored.Tie as tie
