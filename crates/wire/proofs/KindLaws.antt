@@ -1,5 +1,6 @@
 -- What the kind of a type says of the type, and the kind of each type. Assumes nothing.
 use mathlib.Core.Path.{◌≡◌, refl, sym, ◌∙◌}
+use mathlib.Core.Logic.{◌⊎◌, inl, inr}
 use mathlib.Core.Bool.{Bool, true, false, ◌&&◌}
 use mathlib.Core.List.{[], ◌∷◌}
 use Prim.Native.Nat.{ℕ, ◌<◌, ◌≤◌}
@@ -56,6 +57,13 @@ module _ (type : ℕ) where
   kind_unknown k e is =
       let t = told Unknown (sym is ∙ e) in
       (rw (t.0, t.1, t.2), t.1, t.2)
+
+  -- a Null has no payload, and what is not known has none
+  pub no_payload : (k : Kind) → k ≡ kind_of type → (k ≡ Null) ⊎ (k ≡ Unknown) → (scalar type ≡ false) × (blob type ≡ false)
+  no_payload k e (inl is) =
+      let null : type ≡ null_type = kind_null k e is in
+      (scalar_low type (omega arith), blob_low type (omega arith))
+  no_payload k e (inr is) = let unknown = kind_unknown k e is in (unknown.1, unknown.2)
 
   -- the kind of each type
   pub null_kind : type ≡ null_type → Null ≡ kind_of type

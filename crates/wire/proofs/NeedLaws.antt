@@ -2,7 +2,7 @@
 use mathlib.Core.Path.{◌≡◌, refl, sym}
 use mathlib.Core.Bool.{Bool, true, false}
 use mathlib.Core.List.{List, [], ◌∷◌}
-use Prim.Native.Nat.{ℕ, ◌+◌, ◌-◌, ◌<◌, ◌≤◌}
+use Prim.Native.Nat.{ℕ, ◌-◌, ◌<◌, ◌≤◌}
 use native.Mathlib.Omega.{arith}
 use lib.ListN.{length}
 use borrow.Author.Tests.{lt-ltb, le-ltb, ltb-false}
@@ -12,8 +12,8 @@ use Rattle.wire.specs.Paper.{paper}
 use Rattle.wire.specs.Need.{lacks, needing, Needs}
 use Rattle.wire.specs.declared.error.WireError.{WireError}
 use Rattle.wire.specs.declared.error.WireError.TheVariants.{Truncated}
-use Rattle.wire.specs.declared.need.Needed.{Needed}
-use Rattle.wire.specs.declared.need.Needed.TheVariants.{Enough, Short}
+use Rattle.std.specs.declared.result.Result.{Result}
+use Rattle.std.specs.declared.result.Result.TheVariants.{Ok, Err}
 use Rattle.wire.proofs.PaperLaws.{paper_never_accepted}
 
 -- an answer that accepts is not the refusal
@@ -28,21 +28,21 @@ refusing true number values there e h = sym h
 refusing false number values there e h = absurd (paper_never_accepted e 0 [] h)
 
 module _ (s : List ℕ) (at n : ℕ) where
-  pub need_enough : n ≤ length s - at → Needs s at n Enough
+  pub need_enough : n ≤ length s - at → Needs s at n (Ok tt)
   need_enough h = rw (le-ltb (length s - at) n h)
 
-  pub need_short : (m : ℕ) → length s - at < n → m ≡ n - (length s - at) → Needs s at n (Short (Truncated at m))
+  pub need_short : (m : ℕ) → length s - at < n → m ≡ n - (length s - at) → Needs s at n (Err (Truncated at m))
   need_short m h e = rw (lt-ltb (length s - at) n h, e)
 
-  module _ (r : Needed) (needs : Needs s at n r) where
+  module _ (r : Result (Unit {0}) WireError) (needs : Needs s at n r) where
     -- the bytes are there
-    pub enough_room : r ≡ Enough → n ≤ length s - at
+    pub enough_room : r ≡ Ok tt → n ≤ length s - at
     enough_room e =
-        let enough : Needs s at n Enough = rw e at needs in
+        let enough : Needs s at n (Ok tt) = rw e at needs in
         ltb-false (length s - at) n (accepting (lacks s at n) 9 (at ∷ (n - (length s - at)) ∷ []) enough)
 
     -- they are not, and the refusal says so, whatever would follow
-    pub short_stops : (e : WireError) → r ≡ Short e → (rest : Answer) → needing s at n rest ≡ paper e
+    pub short_stops : (e : WireError) → r ≡ Err e → (rest : Answer) → needing s at n rest ≡ paper e
     short_stops e is rest =
-        let short : Needs s at n (Short e) = rw is at needs in
+        let short : Needs s at n (Err e) = rw is at needs in
         refusing (lacks s at n) 9 (at ∷ (n - (length s - at)) ∷ []) rest e short

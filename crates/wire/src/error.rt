@@ -19,22 +19,24 @@ pub enum WireError {
 }
 
 // A refusal as document 01's number and values.
-pub fn outcome(error: WireError) -> Outcome
-    ensures { Tells (paper error) result }
-{
-    match error {
-        WireError::Truncated { offset, needed } => {
-            refusal(9, 0, offset as u64, needed as u64, 0)
-        }
-        WireError::TooManyRows { count } => refusal(10, 0, count, 0, 0),
-        WireError::TooManyValues { row, count } => refusal(11, 0, row as u64, count, 0),
-        WireError::ValueTooLong { length } => refusal(12, 0, length as u64, 0, 0),
-        WireError::RowsetTooLarge { size } => refusal(13, 0, size as u64, 0, 0),
-        WireError::UnknownValueType(code) => refusal(14, 0, code as u64, 0, 0),
-        WireError::TrailingBytes(count) => refusal(15, 0, count as u64, 0, 0),
-        WireError::NoRoom(short) => no_room(short),
-        WireError::BadTable { rule, position } => {
-            refusal(18, 0, rule as u64, position as u64, 0)
+impl From<WireError> for Outcome {
+    ghost from_gives = { λ error result. Tells (paper error) result };
+
+    fn from(error: WireError) -> Outcome {
+        match error {
+            WireError::Truncated { offset, needed } => {
+                refusal(9, 0, offset as u64, needed as u64, 0)
+            }
+            WireError::TooManyRows { count } => refusal(10, 0, count, 0, 0),
+            WireError::TooManyValues { row, count } => refusal(11, 0, row as u64, count, 0),
+            WireError::ValueTooLong { length } => refusal(12, 0, length as u64, 0, 0),
+            WireError::RowsetTooLarge { size } => refusal(13, 0, size as u64, 0, 0),
+            WireError::UnknownValueType(code) => refusal(14, 0, code as u64, 0, 0),
+            WireError::TrailingBytes(count) => refusal(15, 0, count as u64, 0, 0),
+            WireError::NoRoom(short) => no_room(short),
+            WireError::BadTable { rule, position } => {
+                refusal(18, 0, rule as u64, position as u64, 0)
+            }
         }
     }
 }

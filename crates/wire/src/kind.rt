@@ -32,25 +32,16 @@ pub enum Kind {
 }
 
 // The kind of a type's code.
+#[tactic(auto, unfolding(crate::specs::Kind::kind_of))]
 pub fn kind_of(code: u64) -> Kind
     ensures { IsKind code result }
 {
-    if code < INT64 {
-        if code == NULL {
-            return Kind::Null;
-        }
-        return Kind::Unknown;
+    match code {
+        NULL => Kind::Null,
+        INT64..=BOOLEAN => Kind::Scalar,
+        STRING..=COMPOSITE => Kind::Blob,
+        _ => Kind::Unknown,
     }
-    if code <= BOOLEAN {
-        return Kind::Scalar;
-    }
-    if code < STRING {
-        return Kind::Unknown;
-    }
-    if COMPOSITE < code {
-        return Kind::Unknown;
-    }
-    Kind::Blob
 }
 
 // A scalar's bits: its word, and of a boolean whether the word is 0.

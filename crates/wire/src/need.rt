@@ -3,31 +3,16 @@ ghost use Rattle.wire.specs.Need.{Needs};
 
 use super::error::WireError;
 
-#[derive(Clone, Copy)]
-pub enum Needed {
-    Enough,
-    Short(WireError),
-}
-
 // Whether `count` bytes are there from `offset` on.
-pub fn need_at(input: &[u8], offset: usize, count: usize) -> Needed
+pub fn need_at(input: &[u8], offset: usize, count: usize) -> Result<(), WireError>
     ensures { Needs input.now offset count result }
 {
-    if input.len() < offset {
-        if count == 0 {
-            return Needed::Enough;
-        }
-        return Needed::Short(WireError::Truncated {
-            offset,
-            needed: count,
-        });
-    }
-    let left = input.len() - offset;
+    let left = input.len().saturating_sub(offset);
     if left < count {
-        return Needed::Short(WireError::Truncated {
+        return Err(WireError::Truncated {
             offset,
             needed: count - left,
         });
     }
-    Needed::Enough
+    Ok(())
 }

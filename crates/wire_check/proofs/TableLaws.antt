@@ -18,7 +18,7 @@ use Rattle.wire.specs.declared.error.WireError.TheVariants.{TooManyRows, BadTabl
 use Rattle.wire_check.specs.Writing.{entries_in, total, bad, bad_entry, first_bad}
 use Rattle.wire_check.specs.Stages.{table_order}
 use Rattle.wire_check.specs.Stages.{Good, ChecksTables}
-use Rattle.wire_check.specs.declared.table.Verdict.TheVariants.{Passed, Failed}
+use Rattle.std.specs.declared.result.Result.TheVariants.{Ok, Err}
 
 -- Tests that say the same
 
@@ -182,26 +182,26 @@ none_bad area values none k aligned within =
 -- The order
 
 module _ (area rows values : List ℕ) where
-  pub rule_1 : (length values % entry_words ≡ 0 → ⊥) → ChecksTables area rows values (Failed (BadTable 1 (length values / entry_words)))
+  pub rule_1 : (length values % entry_words ≡ 0 → ⊥) → ChecksTables area rows values (Err (BadTable 1 (length values / entry_words)))
   unfolding table_order
   rule_1 h rest = rw (ne_eqb (length values % entry_words) 0 h)
 
   module _ (whole : length values % entry_words ≡ 0) where
-    pub rule_2 : eqb (total rows) (length values / entry_words) ≡ false → ChecksTables area rows values (Failed (BadTable 2 (length rows)))
+    pub rule_2 : eqb (total rows) (length values / entry_words) ≡ false → ChecksTables area rows values (Err (BadTable 2 (length rows)))
     unfolding table_order
     rule_2 h rest = rw (eq-eqb (length values % entry_words) 0 whole, h)
 
     module _ (sums : eqb (total rows) (length values / entry_words) ≡ true) (first : ℕ) (is : first ≡ first_bad (length area) values) where
-      pub rule_3 : first < length values / entry_words → ChecksTables area rows values (Failed (BadTable 3 first))
+      pub rule_3 : first < length values / entry_words → ChecksTables area rows values (Err (BadTable 3 first))
       unfolding table_order
       rule_3 h rest = rw (eq-eqb (length values % entry_words) 0 whole, sums, ← is, lt-ltb first (length values / entry_words) h)
 
       module _ (none : length values / entry_words ≤ first) where
-        pub many_rows : max_rows < length rows → ChecksTables area rows values (Failed (TooManyRows (length rows)))
+        pub many_rows : max_rows < length rows → ChecksTables area rows values (Err (TooManyRows (length rows)))
         unfolding table_order
         many_rows h rest = rw (eq-eqb (length values % entry_words) 0 whole, sums, ← is, le-ltb first (length values / entry_words) none, lt-ltb max_rows (length rows) h)
 
-        pub tables_pass : length rows ≤ max_rows → ChecksTables area rows values Passed
+        pub tables_pass : length rows ≤ max_rows → ChecksTables area rows values (Ok tt)
         unfolding table_order
         tables_pass h =
             let all : total rows ≡ length values / entry_words = eqb-true (total rows) (length values / entry_words) sums in (

@@ -12,20 +12,21 @@ use Rattle.wire.proofs.PaperLaws.{refusal_back, refusal_back_lem}
 use Rattle.wire_check.specs.Writing.{first_bad, measuring}
 use Rattle.wire_check.specs.Paper.{paper_measured}
 use Rattle.wire_check.specs.Statement.{Measures, FindsBad}
-use Rattle.wire_check.specs.declared.size.Measured.{Measured}
-use Rattle.wire_check.specs.declared.size.Measured.TheVariants.{Size, Refused}
+use Rattle.wire.specs.declared.error.WireError.{WireError}
+use Rattle.std.specs.declared.result.Result.{Result}
+use Rattle.std.specs.declared.result.Result.TheVariants.{Ok, Err}
 
-abbrev measured_of : Answer → Measured
-measured_of a = refusal_back (λ n fields. Size n) Refused a
+abbrev measured_of : Answer → Result ℕ WireError
+measured_of a = refusal_back (λ n fields. Ok n) Err a
 
-measured_back_lem : (r : Measured) → measured_of (paper_measured r) ≡ r
-measured_back_lem (Size n) = refl
-measured_back_lem (Refused refusal) = refusal_back_lem (λ n fields. Size n) Refused refusal
+measured_back_lem : (r : Result ℕ WireError) → measured_of (paper_measured r) ≡ r
+measured_back_lem (Ok n) = refl
+measured_back_lem (Err refusal) = refusal_back_lem (λ n fields. Ok n) Err refusal
 
 pub encoded_size_unique : (area rows values : List ℕ) → OneResult (Measures area rows values)
 encoded_size_unique area rows values = means_one paper_measured measured_of measured_back_lem (measuring area rows values)
 
-pub outcome_unique : (answer : Measured) → OneResult (Tells (paper_measured answer))
+pub outcome_unique : (answer : Result ℕ WireError) → OneResult (Tells (paper_measured answer))
 outcome_unique answer = equal_to_one (outcome (paper_measured answer))
 
 pub first_bad_unique : (area values : List ℕ) → OneResult (FindsBad area values)

@@ -20,63 +20,61 @@ use Rattle.wire_check.specs.Writing.{type_in, length_in, total, too_large, cappe
 use Rattle.wire_check.specs.Stages.{fit_values, fit_row, fit_rows, fitting}
 use Rattle.wire_check.specs.Statement.{Measures}
 use Rattle.wire_check.specs.Stages.{ChecksTables, Follows, Adds, Fits}
-use Rattle.wire_check.specs.declared.table.Verdict.{Verdict}
-use Rattle.wire_check.specs.declared.table.Verdict.TheVariants.{Passed, Failed}
-use Rattle.wire_check.specs.declared.size.Measured.{Measured}
-use Rattle.wire_check.specs.declared.size.Measured.TheVariants.{Size, Refused}
+use Rattle.std.specs.declared.result.Result.{Result}
+use Rattle.std.specs.declared.result.Result.TheVariants.{Ok, Err}
 use Rattle.wire_check.proofs.TableLaws.{total_more}
 use Rattle.wire_check.proofs.LinesLaws.{measuring_walks}
 
 -- One more element
 
-pub add_over : (size more : ℕ) → max_size < size + more → Adds size more (Refused (RowsetTooLarge (size + more)))
+pub add_over : (size more : ℕ) → max_size < size + more → Adds size more (Err (RowsetTooLarge (size + more)))
 add_over size more h rest = rw (lt-ltb max_size (size + more) h)
 
-pub add_within : (size more : ℕ) → size + more ≤ max_size → Adds size more (Size (size + more))
+pub add_within : (size more : ℕ) → size + more ≤ max_size → Adds size more (Ok (size + more))
 add_within size more h = (refl, h, λ rest. rw (le-ltb max_size (size + more) h))
 
 -- A walk that decides as another one does, and ends at the same size
 abbrev pub Still : (Answer → Answer) → ℕ → (Answer → Answer) → ℕ → Type 0
 Still walk size whole end = ((rest : Answer) → walk rest ≡ whole rest) × (size ≡ end)
 
-pub follows_still : (walk whole : Answer → Answer) (size end : ℕ) (r : Measured) → Still walk size whole end → Follows walk size r → Follows whole end r
-follows_still walk whole size end (Size n) still follows = (follows.0 ∙ still.1, follows.1, λ rest. sym (still.0 rest) ∙ follows.2 rest)
-follows_still walk whole size end (Refused refusal) still follows = λ rest. sym (still.0 rest) ∙ follows rest
+pub follows_still : (walk whole : Answer → Answer) (size end : ℕ) (r : Result ℕ WireError) → Still walk size whole end → Follows walk size r → Follows whole end r
+follows_still walk whole size end (Ok n) still follows = (follows.0 ∙ still.1, follows.1, λ rest. sym (still.0 rest) ∙ follows.2 rest)
+follows_still walk whole size end (Err refusal) still follows = λ rest. sym (still.0 rest) ∙ follows rest
 
 -- checks in front of a walk: they pass and leave it, or they refuse
-module _ (check next walk : Answer → Answer) (splits : (rest : Answer) → walk rest ≡ check (next rest)) (mid : ℕ) (r : Measured) (follows : Follows check mid r) where
-  pub check_sum : (n : ℕ) → r ≡ Size n → (n ≡ mid) × (n ≤ max_size)
-  check_sum n e = let passed : Follows check mid (Size n) = rw e at follows in (passed.0, passed.1)
+module _ (check next walk : Answer → Answer) (splits : (rest : Answer) → walk rest ≡ check (next rest)) (mid : ℕ) (r : Result ℕ WireError) (follows : Follows check mid r) where
+  pub check_sum : (n : ℕ) → r ≡ Ok n → (n ≡ mid) × (n ≤ max_size)
+  check_sum n e = let passed : Follows check mid (Ok n) = rw e at follows in (passed.0, passed.1)
 
-  pub check_passes : (n : ℕ) → r ≡ Size n → (rest : Answer) → next rest ≡ walk rest
-  check_passes n e rest = let passed : Follows check mid (Size n) = rw e at follows in sym (passed.2 (next rest)) ∙ sym (splits rest)
+  pub check_passes : (n : ℕ) → r ≡ Ok n → (rest : Answer) → next rest ≡ walk rest
+  check_passes n e rest = let passed : Follows check mid (Ok n) = rw e at follows in sym (passed.2 (next rest)) ∙ sym (splits rest)
 
-  pub check_stops : (refusal : WireError) → r ≡ Refused refusal → (rest : Answer) → walk rest ≡ paper refusal
-  check_stops refusal e rest = let failed : Follows check mid (Refused refusal) = rw e at follows in splits rest ∙ failed (next rest)
+  pub check_stops : (refusal : WireError) → r ≡ Err refusal → (rest : Answer) → walk rest ≡ paper refusal
+  check_stops refusal e rest = let failed : Follows check mid (Err refusal) = rw e at follows in splits rest ∙ failed (next rest)
 
 -- A value
 
 module _ (type n size : ℕ) where
   -- 12 does not hold: 13 decides
-  value_adds : (more : ℕ) (r : Measured) → (blob type && ltb max_length n) ≡ false → size_of type n ≡ more → Adds size more r
+  value_adds : (more : ℕ) (r : Result ℕ WireError) → (blob type && ltb max_length n) ≡ false → size_of type n ≡ more → Adds size more r
       → Follows (decide (value_order type n size)) (size + size_of type n) r
   unfolding value_order
   value_adds more r short e adds =
       follows_still (decide (too_large (size + more) ∷ [])) (decide (value_order type n size)) (size + more) (size + size_of type n) r ((λ rest. rw (short, e)), rw e) adds
 
-  pub none_adds : scalar type ≡ false → blob type ≡ false → (r : Measured) → Adds size 8 r → Follows (decide (value_order type n size)) (size + size_of type n) r
+  pub none_adds : scalar type ≡ false → blob type ≡ false → (r : Result ℕ WireError) → Adds size 8 r → Follows (decide (value_order type n size)) (size + size_of type n) r
   none_adds none isnt r adds = value_adds 8 r (rw isnt) (rw (payload_none type n none isnt)) adds
 
-  pub scalar_adds : 3 ≤ type → type < 7 → (r : Measured) → Adds size 16 r → Follows (decide (value_order type n size)) (size + size_of type n) r
+  pub scalar_adds : 3 ≤ type → type < 7 → (r : Result ℕ WireError) → Adds size 16 r → Follows (decide (value_order type n size)) (size + size_of type n) r
   scalar_adds low high r adds =
       value_adds 16 r (rw (blob_low type (omega arith))) (rw (payload_scalar type n low high)) adds
 
   module _ (low : 16 ≤ type) (high : type ≤ 18) where
-    pub blob_long : max_length < n → (cap : ℕ) → cap ≡ capped n → Follows (decide (value_order type n size)) (size + size_of type n) (Refused (ValueTooLong cap))
+    pub blob_long : max_length < n → (cap : ℕ) → cap ≡ capped n → Follows (decide (value_order type n size)) (size + size_of type n) (Err (ValueTooLong cap))
     unfolding value_order
     blob_long h cap e rest = rw (blob_yes type low (omega arith), lt-ltb max_length n h, e)
 
-    pub blob_adds : n ≤ max_length → (more : ℕ) → more ≡ padded n → (r : Measured) → Adds size (8 + more) r
+    pub blob_adds : n ≤ max_length → (more : ℕ) → more ≡ padded n → (r : Result ℕ WireError) → Adds size (8 + more) r
         → Follows (decide (value_order type n size)) (size + size_of type n) r
     blob_adds h more e r adds =
         value_adds (8 + more) r (rw (blob_yes type low (omega arith), le-ltb max_length n h)) (rw (payload_blob type n low (omega arith), e)) adds
@@ -93,14 +91,14 @@ ValuesLeft values start count before size k left =
     × Still (fit_values values left k size) (size + values_size values left k) (fit_values values count start before) (before + values_size values count start)
 
 module _ (values : List ℕ) (start count before size k left : ℕ) (so_far : ValuesLeft values start count before size k left) where
-  pub values_end : left ≤ 0 → Follows (fit_values values count start before) (before + values_size values count start) (Size size)
+  pub values_end : left ≤ 0 → Follows (fit_values values count start before) (before + values_size values count start) (Ok size)
   unfolding fit_values values_size
   values_end h =
       let e : left ≡ 0 = omega arith in
       let ended : Still (fit_values values 0 k size) (size + 0) (fit_values values count start before) (before + values_size values count start) = rw e at so_far.2 in
       (omega (arith, ended.1), so_far.1, λ rest. sym (ended.0 rest))
 
-  module _ (some : 0 < left) (r : Measured) (follows : Follows (value_checks values k size) (size + value_size values k) r) where
+  module _ (some : 0 < left) (r : Result ℕ WireError) (follows : Follows (value_checks values k size) (size + value_size values k) r) where
     one_more : left ≡ suc (left - 1)
     one_more = omega arith
 
@@ -112,10 +110,10 @@ module _ (values : List ℕ) (start count before size k left : ℕ) (so_far : Va
     unfolding values_size
     sizes = ap (λ (m : ℕ). values_size values m k) one_more
 
-    pub values_stop : (refusal : WireError) → r ≡ Refused refusal → Follows (fit_values values count start before) (before + values_size values count start) (Refused refusal)
+    pub values_stop : (refusal : WireError) → r ≡ Err refusal → Follows (fit_values values count start before) (before + values_size values count start) (Err refusal)
     values_stop refusal e rest = sym (so_far.2.0 rest) ∙ check_stops _ _ _ splits _ r follows refusal e rest
 
-    pub values_go : (n : ℕ) → r ≡ Size n → ValuesLeft values start count before n (k + entry_words) (left - 1)
+    pub values_go : (n : ℕ) → r ≡ Ok n → ValuesLeft values start count before n (k + entry_words) (left - 1)
     values_go n e =
         let sum : (n ≡ size + value_size values k) × (n ≤ max_size) = check_sum _ _ _ splits _ r follows n e in (
           omega arith,
@@ -125,7 +123,7 @@ module _ (values : List ℕ) (start count before size k left : ℕ) (so_far : Va
 
 -- A row
 
-module _ (values : List ℕ) (count i k before : ℕ) (r : Measured) (adds : Adds before 8 r) where
+module _ (values : List ℕ) (count i k before : ℕ) (r : Result ℕ WireError) (adds : Adds before 8 r) where
   behind : Answer → Answer
   behind rest = decide (max_values <? values_in count ⇒ refuse 11 (i ∷ count ∷ []) ∷ []) (fit_values values (values_in count) k (before + 8) rest)
 
@@ -133,18 +131,18 @@ module _ (values : List ℕ) (count i k before : ℕ) (r : Measured) (adds : Add
   unfolding fit_row count_order behind
   row_splits rest = refl
 
-  pub row_large : (refusal : WireError) → r ≡ Refused refusal → Follows (fit_row values count i k before) (before + row_size values count k) (Refused refusal)
+  pub row_large : (refusal : WireError) → r ≡ Err refusal → Follows (fit_row values count i k before) (before + row_size values count k) (Err refusal)
   row_large refusal e rest = check_stops _ _ _ row_splits _ r adds refusal e rest
 
-  module _ (size : ℕ) (e : r ≡ Size size) (n : ℕ) (is : n ≡ values_in count) where
+  module _ (size : ℕ) (e : r ≡ Ok size) (n : ℕ) (is : n ≡ values_in count) where
     pub row_within : (k + entry_words * values_in count ≤ length values) → (k + entry_words * n ≤ length values) × (size ≤ max_size)
     row_within h = (omega arith, (check_sum _ _ _ row_splits _ r adds size e).1)
 
-    pub row_many : max_values < n → Follows (fit_row values count i k before) (before + row_size values count k) (Refused (TooManyValues i count))
+    pub row_many : max_values < n → Follows (fit_row values count i k before) (before + row_size values count k) (Err (TooManyValues i count))
     unfolding behind
     row_many h rest = sym (check_passes _ _ _ row_splits _ r adds size e rest) ∙ rw (← is, lt-ltb max_values n h)
 
-    pub row_values : n ≤ max_values → (r' : Measured) → Follows (fit_values values n k size) (size + values_size values n k) r'
+    pub row_values : n ≤ max_values → (r' : Result ℕ WireError) → Follows (fit_values values n k size) (size + values_size values n k) r'
         → Follows (fit_row values count i k before) (before + row_size values count k) r'
     unfolding behind
     row_values h r' follows =
@@ -167,7 +165,7 @@ module _ (rows values : List ℕ) where
   rows_begin h = (omega arith, omega arith, ((λ rest. refl), refl))
 
   module _ (size k i : ℕ) (so_far : RowsLeft rows values size k i) where
-    pub rows_end : length rows ≤ i → Follows (fit_rows rows values 0 0 8) (rowset_size rows values) (Size size)
+    pub rows_end : length rows ≤ i → Follows (fit_rows rows values 0 0 8) (rowset_size rows values) (Ok size)
     unfolding fit_rows rows_size
     rows_end h =
         let none : drop i rows ≡ [] = drop_of_length-le rows h in
@@ -181,7 +179,7 @@ module _ (rows values : List ℕ) where
       pub row_fits : k + entry_words * values_in (get_or rows i 0) ≤ length values
       row_fits = omega (arith, total_more rows i some, so_far.0)
 
-      module _ (r : Measured) (follows : Follows (fit_row values (get_or rows i 0) i k size) (size + row_size values (get_or rows i 0) k) r) where
+      module _ (r : Result ℕ WireError) (follows : Follows (fit_row values (get_or rows i 0) i k size) (size + row_size values (get_or rows i 0) k) r) where
         rows_split : (rest : Answer) → fit_rows (drop i rows) values i k size rest
             ≡ fit_row values (get_or rows i 0) i k size (fit_rows (drop (i + 1) rows) values (i + 1) (k + entry_words * values_in (get_or rows i 0)) (size + row_size values (get_or rows i 0) k) rest)
         unfolding fit_rows
@@ -191,10 +189,10 @@ module _ (rows values : List ℕ) where
         unfolding rows_size
         rows_sizes = ap (λ (l : List ℕ). rows_size l values k) one_row
 
-        pub rows_stop : (refusal : WireError) → r ≡ Refused refusal → Follows (fit_rows rows values 0 0 8) (rowset_size rows values) (Refused refusal)
+        pub rows_stop : (refusal : WireError) → r ≡ Err refusal → Follows (fit_rows rows values 0 0 8) (rowset_size rows values) (Err refusal)
         rows_stop refusal e rest = sym (so_far.2.0 rest) ∙ check_stops _ _ _ rows_split _ r follows refusal e rest
 
-        pub rows_go : (sum : ℕ) → r ≡ Size sum → (n : ℕ) → n ≡ values_in (get_or rows i 0) → RowsLeft rows values sum (k + entry_words * n) (i + 1)
+        pub rows_go : (sum : ℕ) → r ≡ Ok sum → (n : ℕ) → n ≡ values_in (get_or rows i 0) → RowsLeft rows values sum (k + entry_words * n) (i + 1)
         rows_go sum e n is =
             let within : (sum ≡ size + row_size values (get_or rows i 0) k) × (sum ≤ max_size) = check_sum _ _ _ rows_split _ r follows sum e in (
               omega (arith, total_more rows i some, so_far.0),
@@ -206,29 +204,29 @@ module _ (rows values : List ℕ) where
 
 module _ (area rows values : List ℕ) where
   -- what the writer goes by says what the size is
-  fits_measures : (r : Measured) → Fits area rows values r → Measures area rows values r
-  fits_measures (Size n) fits = ap (λ (m : ℕ). accepted m []) fits.1.0 ∙ sym (measuring_walks area rows values ∙ fits.1.2 _)
-  fits_measures (Refused refusal) fits = sym (measuring_walks area rows values ∙ fits _)
+  fits_measures : (r : Result ℕ WireError) → Fits area rows values r → Measures area rows values r
+  fits_measures (Ok n) fits = ap (λ (m : ℕ). accepted m []) fits.1.0 ∙ sym (measuring_walks area rows values ∙ fits.1.2 _)
+  fits_measures (Err refusal) fits = sym (measuring_walks area rows values ∙ fits _)
 
-  module _ (v : Verdict) (checks : ChecksTables area rows values v) where
-    pub whole_refused : (refusal : WireError) → v ≡ Failed refusal → Measures area rows values (Refused refusal) × Fits area rows values (Refused refusal)
+  module _ (v : Result (Unit {0}) WireError) (checks : ChecksTables area rows values v) where
+    pub whole_refused : (refusal : WireError) → v ≡ Err refusal → Measures area rows values (Err refusal) × Fits area rows values (Err refusal)
     unfolding fitting
     whole_refused refusal e =
-        let failed : ChecksTables area rows values (Failed refusal) = rw e at checks in
-        let fits : Fits area rows values (Refused refusal) = λ rest. failed _ in
-        (fits_measures (Refused refusal) fits, fits)
+        let failed : ChecksTables area rows values (Err refusal) = rw e at checks in
+        let fits : Fits area rows values (Err refusal) = λ rest. failed _ in
+        (fits_measures (Err refusal) fits, fits)
 
-    module _ (e : v ≡ Passed) where
-      passed : ChecksTables area rows values Passed
+    module _ (e : v ≡ Ok tt) where
+      passed : ChecksTables area rows values (Ok tt)
       passed = rw e at checks
 
       pub whole_sound : length values ≡ entry_words * total rows
       whole_sound = passed.0.whole
 
-      whole_fits : (r : Measured) → Follows (fit_rows rows values 0 0 8) (rowset_size rows values) r → Fits area rows values r
+      whole_fits : (r : Result ℕ WireError) → Follows (fit_rows rows values 0 0 8) (rowset_size rows values) r → Fits area rows values r
       unfolding fitting
-      whole_fits (Size n) follows = (passed.0, (follows.0, follows.1, λ rest. passed.1 _ ∙ follows.2 rest))
-      whole_fits (Refused refusal) follows = λ rest. passed.1 _ ∙ follows rest
+      whole_fits (Ok n) follows = (passed.0, (follows.0, follows.1, λ rest. passed.1 _ ∙ follows.2 rest))
+      whole_fits (Err refusal) follows = λ rest. passed.1 _ ∙ follows rest
 
-      pub whole_measured : (r : Measured) → Follows (fit_rows rows values 0 0 8) (rowset_size rows values) r → Measures area rows values r × Fits area rows values r
+      pub whole_measured : (r : Result ℕ WireError) → Follows (fit_rows rows values 0 0 8) (rowset_size rows values) r → Measures area rows values r × Fits area rows values r
       whole_measured r follows = let fits : Fits area rows values r = whole_fits r follows in (fits_measures r fits, fits)

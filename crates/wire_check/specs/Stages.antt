@@ -1,15 +1,12 @@
 -- What the private stages hand on, and what the writer goes by: nobody has to believe it. (proofs/LinesLaws.antt: the
 -- walks decide as the lines do.) Assumes nothing.
-use Rattle.std.specs.Prelude.{ℕ, zero, suc, ◌+◌, ◌*◌, ◌%◌, ◌≤◌, ◌≡◌, false, List, [], ◌∷◌, ◌++◌, length}
+use Rattle.std.specs.Prelude.{ℕ, zero, suc, ◌+◌, ◌*◌, ◌%◌, ◌≤◌, ◌≡◌, false, List, [], ◌∷◌, ◌++◌, length, Result, Ok, Err}
 use Rattle.words.specs.Answer.{Answer}
 use Rattle.words.specs.Decide.{Line, decide}
 use Rattle.wire.specs.Layout.{max_size, entry_words, values_in}
 use Rattle.wire.specs.Paper.{paper}
+use Rattle.wire.specs.declared.error.WireError.{WireError}
 use Rattle.wire_check.specs.Writing.{type_in, length_in, total, bad_entry, bad_table_lines, too_many_rows, too_large, value_order, count_order, value_size, row_size, rowset_size}
-use Rattle.wire_check.specs.declared.table.Verdict.{Verdict}
-use Rattle.wire_check.specs.declared.table.Verdict.TheVariants.{Passed, Failed}
-use Rattle.wire_check.specs.declared.size.Measured.{Measured}
-use Rattle.wire_check.specs.declared.size.Measured.TheVariants.{Size, Refused}
 
 -- no entry is bad, wherever in the table it begins
 abbrev pub Good : List ℕ → List ℕ → Type 0
@@ -50,23 +47,23 @@ fitting area rows values rest =
 
 -- Between the stages: where the checks of a walk pass, what follows them decides, else the refusal, whatever follows
 
-abbrev pub ChecksTables : List ℕ → List ℕ → List ℕ → Verdict → Type 0
-ChecksTables area rows values Passed =
+abbrev pub ChecksTables : List ℕ → List ℕ → List ℕ → Result (Unit {0}) WireError → Type 0
+ChecksTables area rows values (Ok there) =
     Sound area rows values × ((rest : Answer) → decide (table_order area rows values) rest ≡ rest)
-ChecksTables area rows values (Failed refusal) =
+ChecksTables area rows values (Err refusal) =
     (rest : Answer) → decide (table_order area rows values) rest ≡ paper refusal
 
 -- a walk that ends at this size
-abbrev pub Follows : (Answer → Answer) → ℕ → Measured → Type 0
-Follows walk size (Size n) = (n ≡ size) × (n ≤ max_size) × ((rest : Answer) → walk rest ≡ rest)
-Follows walk size (Refused refusal) = (rest : Answer) → walk rest ≡ paper refusal
+abbrev pub Follows : (Answer → Answer) → ℕ → Result ℕ WireError → Type 0
+Follows walk size (Ok n) = (n ≡ size) × (n ≤ max_size) × ((rest : Answer) → walk rest ≡ rest)
+Follows walk size (Err refusal) = (rest : Answer) → walk rest ≡ paper refusal
 
 -- one more element of the rowset: 13 where it crosses the limit
-abbrev pub Adds : ℕ → ℕ → Measured → Type 0
+abbrev pub Adds : ℕ → ℕ → Result ℕ WireError → Type 0
 Adds size more r = Follows (decide (too_large (size + more) ∷ [])) (size + more) r
 
 -- and what the writer goes by: where the checks pass, the tables are sound
-abbrev pub Fits : List ℕ → List ℕ → List ℕ → Measured → Type 0
-Fits area rows values (Size n) =
-    Sound area rows values × Follows (fitting area rows values) (rowset_size rows values) (Size n)
-Fits area rows values (Refused refusal) = Follows (fitting area rows values) (rowset_size rows values) (Refused refusal)
+abbrev pub Fits : List ℕ → List ℕ → List ℕ → Result ℕ WireError → Type 0
+Fits area rows values (Ok n) =
+    Sound area rows values × Follows (fitting area rows values) (rowset_size rows values) (Ok n)
+Fits area rows values (Err refusal) = Follows (fitting area rows values) (rowset_size rows values) (Err refusal)

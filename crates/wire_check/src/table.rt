@@ -10,25 +10,17 @@ use wire::error::WireError;
 use wire::kind::{BOOLEAN, Kind, kind_of};
 use wire::layout::{ENTRY_WORDS, MAX_ROWS_PER_ROWSET, values_in};
 
-#[derive(Clone, Copy)]
-pub(crate) enum Verdict {
-    Passed,
-    Failed(WireError),
-}
-
 // Whether the rows have so many values. What is left is counted down, so that no sum can wrap.
 fn sums_to(rows: &[u64], entries: usize) -> bool
     ensures { result ≡ (total rows.now =? entries) }
 {
     let mut left = entries as u64;
-    let mut i = 0;
-    while i < rows.len() {
-        let count = values_in(rows[i]);
+    for row in rows {
+        let count = values_in(*row);
         if left < count {
             return false;
         }
         left -= count;
-        i += 1;
     }
     left == 0
 }
@@ -89,44 +81,42 @@ pub fn first_bad(area: &[u8], values: &[u64]) -> usize
     ensures { FindsBad area.now values.now result }
 {
     let n = values.len() / ENTRY_WORDS;
-    let mut i = 0;
-    while i < n {
+    for i in 0..n {
         if bad_entry(area.len(), values, ENTRY_WORDS * i) {
             return i;
         }
-        i += 1;
     }
-    i
+    n
 }
 
 // 18 by its rules, then 10.
-pub(crate) fn check_tables(area: &[u8], rows: &[u64], values: &[u64]) -> Verdict
+pub(crate) fn check_tables(area: &[u8], rows: &[u64], values: &[u64]) -> Result<(), WireError>
     ensures { ChecksTables area.now rows.now values.now result }
 {
     let entries = values.len() / ENTRY_WORDS;
     if values.len() % ENTRY_WORDS != 0 {
-        return Verdict::Failed(WireError::BadTable {
+        return Err(WireError::BadTable {
             rule: 1,
             position: entries,
         });
     }
     if !sums_to(rows, entries) {
-        return Verdict::Failed(WireError::BadTable {
+        return Err(WireError::BadTable {
             rule: 2,
             position: rows.len(),
         });
     }
     let bad = first_bad(area, values);
     if bad < entries {
-        return Verdict::Failed(WireError::BadTable {
+        return Err(WireError::BadTable {
             rule: 3,
             position: bad,
         });
     }
     if MAX_ROWS_PER_ROWSET < rows.len() as u64 {
-        return Verdict::Failed(WireError::TooManyRows {
+        return Err(WireError::TooManyRows {
             count: rows.len() as u64,
         });
     }
-    Verdict::Passed
+    Ok(())
 }

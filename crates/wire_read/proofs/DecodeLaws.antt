@@ -22,16 +22,16 @@ use Rattle.wire_read.specs.Paper.{paper_decoded}
 use Rattle.wire_read.specs.Statement.{Decodes}
 use Rattle.wire_read.proofs.ReadingLaws.{reading_walks}
 use Rattle.wire_read.specs.declared.walk.Walked.{Walked}
-use Rattle.wire_read.specs.declared.walk.Walked.TheVariants.{At, Stopped}
+use Rattle.std.specs.declared.result.Result.{Result}
+use Rattle.std.specs.declared.result.Result.TheVariants.{Ok, Err}
 use Rattle.wire_read.specs.declared.rowset.Decoded.{Decoded}
-use Rattle.wire_read.specs.declared.rowset.Decoded.TheVariants.{Read, Refused}
 
 -- a run of stores from the front, where it fits
 stored_over : (words table : List ℕ) → length words ≤ length table → sets table 0 words ≡ over words table
 stored_over words table h = fitted_sets words table h ∙ fitted_fits words table h
 
 -- an answer and what it leaves, told by the result
-decodes : (s rows values : List ℕ) (r : Decoded) (rows' values' : List ℕ) → paper_decoded r ≡ reading s (length rows) (length values)
+decodes : (s rows values : List ℕ) (r : Result Decoded WireError) (rows' values' : List ℕ) → paper_decoded r ≡ reading s (length rows) (length values)
     → rows' ≡ afterwards (paper_decoded r) (row_words s (count_at s 0) 8) rows → values' ≡ afterwards (paper_decoded r) (value_words s (count_at s 0) 8) values
     → Decodes s rows values r rows' values'
 decodes s rows values r rows' values' means first second = (
@@ -41,22 +41,22 @@ decodes s rows values r rows' values' means first second = (
 )
 
 -- and back
-pub decodes_told : (s rows values : List ℕ) (r : Decoded) (rows' values' : List ℕ) → Decodes s rows values r rows' values'
+pub decodes_told : (s rows values : List ℕ) (r : Result Decoded WireError) (rows' values' : List ℕ) → Decodes s rows values r rows' values'
     → (rows' ≡ afterwards (paper_decoded r) (row_words s (count_at s 0) 8) rows) × (values' ≡ afterwards (paper_decoded r) (value_words s (count_at s 0) 8) values)
 decodes_told s rows values r rows' values' told = (
   told.1 ∙ ap (λ (a : Answer). afterwards a (row_words s (count_at s 0) 8) rows) (sym told.0),
   told.2 ∙ ap (λ (a : Answer). afterwards a (value_words s (count_at s 0) 8) values) (sym told.0),
 )
 
-module _ (s rows values : List ℕ) (r : Walked) (walks : WalksRowset s r) where
-  pub decode_refused : (refusal : WireError) → r ≡ Stopped refusal → Decodes s rows values (Refused refusal) rows values
+module _ (s rows values : List ℕ) (r : Result Walked WireError) (walks : WalksRowset s r) where
+  pub decode_refused : (refusal : WireError) → r ≡ Err refusal → Decodes s rows values (Err refusal) rows values
   decode_refused refusal e =
-      let stopped : WalksRowset s (Stopped refusal) = rw e at walks in
-      decodes s rows values (Refused refusal) rows values (sym (reading_walks s (length rows) (length values) ∙ stopped _)) (sym (paper_keeps refusal _ rows)) (sym (paper_keeps refusal _ values))
+      let stopped : WalksRowset s (Err refusal) = rw e at walks in
+      decodes s rows values (Err refusal) rows values (sym (reading_walks s (length rows) (length values) ∙ stopped _)) (sym (paper_keeps refusal _ rows)) (sym (paper_keeps refusal _ values))
 
   -- the input is accepted: the room is left to be looked at
-  module _ (end n count : ℕ) (e : r ≡ At end n) (is : count ≡ count_at s 0) where
-    passed : WalksRowset s (At end n)
+  module _ (end n count : ℕ) (e : r ≡ Ok record { next = end; values = n }) (is : count ≡ count_at s 0) where
+    passed : WalksRowset s (Ok record { next = end; values = n })
     passed = rw e at walks
 
     sum : n ≡ value_count s count 8
@@ -65,15 +65,15 @@ module _ (s rows values : List ℕ) (r : Walked) (walks : WalksRowset s r) where
     pub decode_lies : next_rows s count 8 ≤ length s
     decode_lies = rw (is, ← passed.0) passed.2
 
-    pub no_rows : length rows < count → Decodes s rows values (Refused (NoRoom (record { room = Rows; needed = count; given = length rows }))) rows values
+    pub no_rows : length rows < count → Decodes s rows values (Err (NoRoom (record { room = Rows; needed = count; given = length rows }))) rows values
     unfolding room_order
-    no_rows h = decodes s rows values (Refused (NoRoom (record { room = Rows; needed = count; given = length rows }))) rows values (sym (reading_walks s (length rows) (length values) ∙ passed.3 _ ∙ rw (← is, lt-ltb (length rows) count h))) refl refl
+    no_rows h = decodes s rows values (Err (NoRoom (record { room = Rows; needed = count; given = length rows }))) rows values (sym (reading_walks s (length rows) (length values) ∙ passed.3 _ ∙ rw (← is, lt-ltb (length rows) count h))) refl refl
 
     module _ (fits : count ≤ length rows) where
-      pub no_values : length values / entry_words < n → Decodes s rows values (Refused (NoRoom (record { room = Values; needed = n; given = length values / entry_words }))) rows values
+      pub no_values : length values / entry_words < n → Decodes s rows values (Err (NoRoom (record { room = Values; needed = n; given = length values / entry_words }))) rows values
       unfolding room_order
       no_values h =
-          decodes s rows values (Refused (NoRoom (record { room = Values; needed = n; given = length values / entry_words }))) rows values
+          decodes s rows values (Err (NoRoom (record { room = Values; needed = n; given = length values / entry_words }))) rows values
           (sym (reading_walks s (length rows) (length values) ∙ passed.3 _ ∙ rw (← is, le-ltb (length rows) count fits, ← sum, lt-ltb (length values / entry_words) n h))) refl refl
 
       module _ (room : n ≤ length values / entry_words) where
@@ -81,12 +81,12 @@ module _ (s rows values : List ℕ) (r : Walked) (walks : WalksRowset s r) where
         decode_room = omega (arith, sum)
 
         pub decode_read : (rows' values' : List ℕ) → rows' ≡ sets rows 0 (row_words s count 8) → values' ≡ sets values 0 (value_words s count 8)
-            → Decodes s rows values (Read count n) rows' values'
+            → Decodes s rows values (Ok record { rows = count; values = n }) rows' values'
         unfolding room_order
         decode_read rows' values' first second =
             let few : length (row_words s count 8) ≤ length rows = rw (length_row_words s count 8) fits in
             let some : length (value_words s count 8) ≤ length values = rw (length_value_words s count 8) decode_room in
-            decodes s rows values (Read count n) rows' values'
+            decodes s rows values (Ok record { rows = count; values = n }) rows' values'
             (sym (reading_walks s (length rows) (length values) ∙ passed.3 _ ∙ rw (← is, le-ltb (length rows) count fits, ← sum, le-ltb (length values / entry_words) n room)))
             (rw (← is) (first ∙ stored_over (row_words s count 8) rows few))
             (rw (← is) (second ∙ stored_over (value_words s count 8) values some))

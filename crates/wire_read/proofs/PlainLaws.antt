@@ -25,10 +25,11 @@ use Rattle.wire_value.proofs.HeaderLaws.{header_kind, header_aggregate, header_l
 use Rattle.wire.proofs.LayoutLaws.{next_values_more, next_rows_more, next_values_far, next_row_far, next_rows_far}
 use Rattle.wire_read.specs.Plain.{zeros, plain_value, plain_values, plain_rows, is_accepted, plain}
 use Rattle.wire_read.specs.Stages.{PlainTill, WalksRowset}
-use Rattle.wire_read.specs.declared.plain.Plain.{Plain}
-use Rattle.wire_read.specs.declared.plain.Plain.TheVariants.{Till, Not}
+use Rattle.std.specs.declared.option.Option.{Option}
+use Rattle.std.specs.declared.option.Option.TheVariants.{Some, None}
+use Rattle.std.specs.declared.result.Result.{Result}
+use Rattle.std.specs.declared.result.Result.TheVariants.{Ok, Err}
 use Rattle.wire_read.specs.declared.walk.Walked.{Walked}
-use Rattle.wire_read.specs.declared.walk.Walked.TheVariants.{At, Stopped}
 
 -- Headers
 
@@ -138,7 +139,7 @@ PlainLeft s n start left at =
     (next_values s left at ≡ next_values s n start) × (next_values s n start ≤ length s) × (plain_values s left at ≡ plain_values s n start)
 
 module _ (s : List ℕ) (n start left at : ℕ) (inv : PlainLeft s n start left at) where
-  pub plain_end : left ≤ 0 → PlainTill (plain_values s n start) (next_values s n start) (Till at)
+  pub plain_end : left ≤ 0 → PlainTill (plain_values s n start) (next_values s n start) (Some at)
   unfolding plain_values next_values
   plain_end h =
       let none : left ≡ 0 = omega arith in
@@ -153,7 +154,7 @@ module _ (s : List ℕ) (n start left at : ℕ) (inv : PlainLeft s n start left 
         let all : next_values s (left - 1) (next_value s at) ≡ next_values s n start = sym (next_values_more s left at more) ∙ inv.0 in
         omega (arith, inv.1)
 
-    pub plain_not : (b : Bool) → b ≡ plain_value s at → b ≡ false → PlainTill (plain_values s n start) (next_values s n start) Not
+    pub plain_not : (b : Bool) → b ≡ plain_value s at → b ≡ false → PlainTill (plain_values s n start) (next_values s n start) None
     plain_not b is e = sym inv.2 ∙ plain_values_more s left at more ∙ rw (← is, e)
 
     pub plain_go : (b : Bool) (next : ℕ) → b ≡ plain_value s at → b ≡ true → next ≡ next_value s at → PlainLeft s n start (left - 1) next
@@ -194,16 +195,16 @@ module _ (s : List ℕ) (count row at : ℕ) (inv : PlainRowsLeft s count row at
         let all : next_rows s (count - row) at ≡ next_rows s (count - (row + 1)) (next_row s at) = next_rows_more s count row more at in
         (omega (arith, inv.1), rw row_end (omega (arith, inv.1)))
 
-    module _ (r : Plain) (tells : PlainTill (plain_values s n (at + 8)) (next_values s n (at + 8)) r) where
-      pub plain_rows_not : r ≡ Not → false ≡ plain_rows s count 8
+    module _ (r : Option ℕ) (tells : PlainTill (plain_values s n (at + 8)) (next_values s n (at + 8)) r) where
+      pub plain_rows_not : r ≡ None → false ≡ plain_rows s count 8
       plain_rows_not e =
           let no : plain_values s n (at + 8) ≡ false = rw e at tells in
           let row-no : plain_values s (values_in (count_at s at)) (at + 8) ≡ false = rw is at no in
           sym (sym inv.2 ∙ plain_rows_more s count row more at ∙ rw row-no)
 
-      pub plain_rows_go : (next : ℕ) → r ≡ Till next → PlainRowsLeft s count (row + 1) next
+      pub plain_rows_go : (next : ℕ) → r ≡ Some next → PlainRowsLeft s count (row + 1) next
       plain_rows_go next e =
-          let yes-till : PlainTill (plain_values s n (at + 8)) (next_values s n (at + 8)) (Till next) = rw e at tells in
+          let yes-till : PlainTill (plain_values s n (at + 8)) (next_values s n (at + 8)) (Some next) = rw e at tells in
           let row-yes : plain_values s (values_in (count_at s at)) (at + 8) ≡ true = rw is at yes-till.0 in
           let there : next ≡ next_row s at = yes-till.1 ∙ row_end in
           let all : next_rows s (count - row) at ≡ next_rows s (count - (row + 1)) next = rw there (next_rows_more s count row more at) in (
@@ -223,15 +224,15 @@ module _ (s : List ℕ) where
   unfolding plain
   plain_large h = rw (lt-ltb max_size (length s) h)
 
-  module _ (small : length s ≤ max_size) (r : Walked) (walks : WalksRowset s r) where
-    pub plain_refused : (refusal : WireError) → r ≡ Stopped refusal → false ≡ plain s
+  module _ (small : length s ≤ max_size) (r : Result Walked WireError) (walks : WalksRowset s r) where
+    pub plain_refused : (refusal : WireError) → r ≡ Err refusal → false ≡ plain s
     unfolding plain
     plain_refused refusal e =
-        let stopped : WalksRowset s (Stopped refusal) = rw e at walks in
+        let stopped : WalksRowset s (Err refusal) = rw e at walks in
         rw (le-ltb max_size (length s) small, accepts_walks s, stopped (accepted 0 []), refusal_no refusal)
 
-    module _ (end values count : ℕ) (e : r ≡ At end values) (is : count ≡ count_at s 0) where
-      passed : WalksRowset s (At end values)
+    module _ (end values count : ℕ) (e : r ≡ Ok record { next = end; values = values }) (is : count ≡ count_at s 0) where
+      passed : WalksRowset s (Ok record { next = end; values = values })
       passed = rw e at walks
 
       pub plain_lies : next_rows s count 8 ≤ length s

@@ -13,20 +13,22 @@ use Rattle.wire_read.specs.Plain.{plain}
 use Rattle.wire_read.specs.Paper.{paper_decoded}
 use Rattle.wire_read.specs.Statement.{Decodes, TellsPlain}
 use Rattle.wire_read.specs.declared.rowset.Decoded.{Decoded}
-use Rattle.wire_read.specs.declared.rowset.Decoded.TheVariants.{Read, Refused}
+use Rattle.wire.specs.declared.error.WireError.{WireError}
+use Rattle.std.specs.declared.result.Result.{Result}
+use Rattle.std.specs.declared.result.Result.TheVariants.{Ok, Err}
 
 -- document 01's answer tells the code's
-abbrev decoded_of : Answer → Decoded
-decoded_of a = refusal_back (λ n fields. Read (get_or fields 0 0) (get_or fields 1 0)) Refused a
+abbrev decoded_of : Answer → Result Decoded WireError
+decoded_of a = refusal_back (λ n fields. Ok record { rows = get_or fields 0 0; values = get_or fields 1 0 }) Err a
 
-decoded_back_lem : (r : Decoded) → decoded_of (paper_decoded r) ≡ r
-decoded_back_lem (Read rows values) = refl
-decoded_back_lem (Refused refusal) = refusal_back_lem (λ n fields. Read (get_or fields 0 0) (get_or fields 1 0)) Refused refusal
+decoded_back_lem : (r : Result Decoded WireError) → decoded_of (paper_decoded r) ≡ r
+decoded_back_lem (Ok read) = refl
+decoded_back_lem (Err refusal) = refusal_back_lem (λ n fields. Ok record { rows = get_or fields 0 0; values = get_or fields 1 0 }) Err refusal
 
-pub decoded_injective : (r r' : Decoded) → paper_decoded r ≡ paper_decoded r' → r ≡ r'
+pub decoded_injective : (r r' : Result Decoded WireError) → paper_decoded r ≡ paper_decoded r' → r ≡ r'
 decoded_injective r r' e = sym (decoded_back_lem r) ∙ ap decoded_of e ∙ decoded_back_lem r'
 
-pub decode_rowset_unique : (s rows values : List ℕ) (r r' : Decoded) (a a' b b' : List ℕ) → Decodes s rows values r a b → Decodes s rows values r' a' b'
+pub decode_rowset_unique : (s rows values : List ℕ) (r r' : Result Decoded WireError) (a a' b b' : List ℕ) → Decodes s rows values r a b → Decodes s rows values r' a' b'
     → (r ≡ r') × (a ≡ a') × (b ≡ b')
 decode_rowset_unique s rows values r r' a a' b b' p q =
     let answer : Answer = reading s (length rows) (length values) in (

@@ -15,16 +15,14 @@ use Rattle.wire.specs.declared.error.WireError.{WireError}
 use Rattle.wire.specs.declared.error.WireError.TheVariants.{TooManyRows, TooManyValues, TrailingBytes}
 use Rattle.wire_value.specs.declared.value.Header.{Header}
 use Rattle.wire_value.specs.declared.value.Checked.{Checked}
-use Rattle.wire_value.specs.declared.value.Checked.TheVariants.{Passed, Failed}
+use Rattle.std.specs.declared.result.Result.{Result}
+use Rattle.std.specs.declared.result.Result.TheVariants.{Ok, Err}
 use Rattle.wire.specs.Need.{Needs}
-use Rattle.wire.specs.declared.need.Needed.{Needed}
-use Rattle.wire.specs.declared.need.Needed.TheVariants.{Short}
 use Rattle.wire.proofs.NeedLaws.{short_stops}
 use Rattle.wire.proofs.LayoutLaws.{next_values_more, next_rows_more, value_count_more, next_row_far}
 use Rattle.wire_read.specs.Stages.{read_values, count_order, read_row, read_rows, head_order, read_rowset}
 use Rattle.wire_read.specs.Stages.{WalksValues, WalksRow, WalksRows, WalksRowset}
 use Rattle.wire_read.specs.declared.walk.Walked.{Walked}
-use Rattle.wire_read.specs.declared.walk.Walked.TheVariants.{At, Stopped}
 
 -- Values: `left` of n are still to be walked, from `at` on
 
@@ -38,15 +36,15 @@ read_values_more s zero at rest h = absurd (omega arith)
 read_values_more s (suc m) at rest h = let e : suc m - 1 ≡ m = omega arith in rw e
 
 module _ (s : List ℕ) (n start left at : ℕ) (inv : ValuesLeft s n start left at) where
-  module _ (more : 0 < left) (r : Checked) (checks : ChecksValue s at r) where
-    pub values_stop : (refusal : WireError) → r ≡ Failed refusal → WalksValues s n start (Stopped refusal)
+  module _ (more : 0 < left) (r : Result Checked WireError) (checks : ChecksValue s at r) where
+    pub values_stop : (refusal : WireError) → r ≡ Err refusal → WalksValues s n start (Err refusal)
     values_stop refusal e rest =
-        let failed : ChecksValue s at (Failed refusal) = rw e at checks in
+        let failed : ChecksValue s at (Err refusal) = rw e at checks in
         sym (inv.2 rest) ∙ read_values_more s left at rest more ∙ failed (read_values s (left - 1) (next_value s at) rest)
 
-    pub values_go : (header : Header) (next : ℕ) → Lies s r → r ≡ Passed header next → ValuesLeft s n start (left - 1) next
+    pub values_go : (header : Header) (next : ℕ) → Lies s r → r ≡ Ok record { header = header; next = next } → ValuesLeft s n start (left - 1) next
     values_go header next lies e =
-        let passed : ChecksValue s at (Passed header next) = rw e at checks in
+        let passed : ChecksValue s at (Ok record { header = header; next = next }) = rw e at checks in
         let within : next ≤ length s = rw e at lies in (
           within,
           ap (next_values s (left - 1)) passed.1 ∙ sym (next_values_more s left at more) ∙ inv.1,
@@ -57,7 +55,7 @@ module _ (s : List ℕ) (n start left at : ℕ) (inv : ValuesLeft s n start left
               ∙ inv.2 rest),
         )
 
-  pub values_end : left ≤ 0 → WalksValues s n start (At at n)
+  pub values_end : left ≤ 0 → WalksValues s n start (Ok record { next = at; values = n })
   unfolding read_values next_values
   values_end h =
       let none : left ≡ 0 = omega arith in
@@ -68,12 +66,12 @@ module _ (s : List ℕ) (n start left at : ℕ) (inv : ValuesLeft s n start left
 -- A row: its count, then its values
 
 module _ (s : List ℕ) (i at : ℕ) where
-  pub row_short : (r : Needed) → Needs s at 8 r → (e : WireError) → r ≡ Short e → WalksRow s i at (Stopped e)
+  pub row_short : (r : Result (Unit {0}) WireError) → Needs s at 8 r → (e : WireError) → r ≡ Err e → WalksRow s i at (Err e)
   unfolding read_row count_order
   row_short r needs e is rest = short_stops s at 8 r needs e is _
 
   module _ (room : 8 ≤ length s - at) (count : ℕ) (is : count ≡ count_at s at) where
-    pub row_null : count ≡ null_mark → WalksRow s i at (At (at + 8) 0)
+    pub row_null : count ≡ null_mark → WalksRow s i at (Ok record { next = at + 8; values = 0 })
     unfolding read_row count_order next_row next_values read_values
     row_null h =
         let mark : count_at s at ≡ null_mark = sym is ∙ h in
@@ -83,17 +81,17 @@ module _ (s : List ℕ) (i at : ℕ) where
       some_at : count_at s at ≡ null_mark → ⊥
       some_at e = some (is ∙ e)
 
-      pub row_many : max_values < count → WalksRow s i at (Stopped (TooManyValues i count))
+      pub row_many : max_values < count → WalksRow s i at (Err (TooManyValues i count))
       unfolding read_row count_order
       row_many h rest =
           rw (le-ltb (length s - at) 8 room, ne_eqb (count_at s at) null_mark some_at, lt-ltb max_values (count_at s at) (rw is at h), is)
 
-      pub row_values : count ≤ max_values → (r : Walked) → WalksValues s count (at + 8) r → WalksRow s i at r
+      pub row_values : count ≤ max_values → (r : Result Walked WireError) → WalksValues s count (at + 8) r → WalksRow s i at r
       unfolding read_row count_order next_row
-      row_values h (At next n) w =
+      row_values h (Ok walked) w =
           rw (← is, ne_eqb count null_mark some)
           (w.0, w.1, w.2, (λ rest. rw (le-ltb (length s - at) 8 room, le-ltb max_values count h) (w.3 rest)))
-      row_values h (Stopped refusal) w =
+      row_values h (Err refusal) w =
           (λ rest. rw (le-ltb (length s - at) 8 room, ← is, ne_eqb count null_mark some, le-ltb max_values count h) (w rest))
 
 -- Rows: from the row number `row` on
@@ -112,21 +110,21 @@ pub rows_begin : (s : List ℕ) (count : ℕ) → 8 ≤ length s → RowsLeft s 
 rows_begin s count h = rw (sub-zero count, zero-add (value_count s count 8)) (omega arith, h, omega arith, refl, refl, (λ rest. refl))
 
 module _ (s : List ℕ) (count row at values : ℕ) (inv : RowsLeft s count row at values) where
-  module _ (more : row < count) (r : Walked) (walks : WalksRow s row at r) where
-    pub rows_stop : (refusal : WireError) → r ≡ Stopped refusal → WalksRows s count 0 8 (Stopped refusal)
+  module _ (more : row < count) (r : Result Walked WireError) (walks : WalksRow s row at r) where
+    pub rows_stop : (refusal : WireError) → r ≡ Err refusal → WalksRows s count 0 8 (Err refusal)
     rows_stop refusal e rest =
-        let stopped : WalksRow s row at (Stopped refusal) = rw e at walks in
+        let stopped : WalksRow s row at (Err refusal) = rw e at walks in
         sym (inv.5 rest) ∙ read_rows_more s count row more row at rest ∙ stopped (read_rows s (count - (row + 1)) (row + 1) (next_row s at) rest)
 
-    module _ (next n : ℕ) (e : r ≡ At next n) where
+    module _ (next n : ℕ) (e : r ≡ Ok record { next = next; values = n }) where
       pub row_within : (next ≤ length s) × (at + 8 + 8 * n ≤ next)
       row_within =
-          let passed : WalksRow s row at (At next n) = rw e at walks in
+          let passed : WalksRow s row at (Ok record { next = next; values = n }) = rw e at walks in
           (passed.2, rw (passed.0, passed.1) (next_row_far s at))
 
       pub rows_go : RowsLeft s count (row + 1) next (values + n)
       rows_go =
-          let passed : WalksRow s row at (At next n) = rw e at walks in
+          let passed : WalksRow s row at (Ok record { next = next; values = n }) = rw e at walks in
           let far : at + 8 + 8 * n ≤ next = row_within.1 in
           let sum : value_count s (count - row) at ≡ values_in (count_at s at) + value_count s (count - (row + 1)) (next_row s at) = value_count_more s count row more at in
           let here : value_count s (count - (row + 1)) next ≡ value_count s (count - (row + 1)) (next_row s at) = ap (value_count s (count - (row + 1))) passed.0 in
@@ -143,7 +141,7 @@ module _ (s : List ℕ) (count row at values : ℕ) (inv : RowsLeft s count row 
                 ∙ inv.5 rest),
           )
 
-  pub rows_end : count ≤ row → WalksRows s count 0 8 (At at values)
+  pub rows_end : count ≤ row → WalksRows s count 0 8 (Ok record { next = at; values = values })
   unfolding read_rows next_rows value_count
   rows_end h =
       let none : count - row ≡ 0 = omega arith in
@@ -155,34 +153,34 @@ module _ (s : List ℕ) (count row at values : ℕ) (inv : RowsLeft s count row 
 -- The rowset
 
 module _ (s : List ℕ) where
-  pub head_short : (r : Needed) → Needs s 0 8 r → (e : WireError) → r ≡ Short e → WalksRowset s (Stopped e)
+  pub head_short : (r : Result (Unit {0}) WireError) → Needs s 0 8 r → (e : WireError) → r ≡ Err e → WalksRowset s (Err e)
   unfolding read_rowset head_order
   head_short r needs e is rest = short_stops s 0 8 r needs e is _
 
   module _ (room : 8 ≤ length s) (count : ℕ) (is : count ≡ count_at s 0) where
-    pub head_many : max_rows < count → WalksRowset s (Stopped (TooManyRows count))
+    pub head_many : max_rows < count → WalksRowset s (Err (TooManyRows count))
     unfolding read_rowset head_order
     head_many h rest = rw (sub-zero (length s), le-ltb (length s) 8 room, ← is, lt-ltb max_rows count h)
 
-    module _ (few : count ≤ max_rows) (r : Walked) (walks : WalksRows s count 0 8 r) where
-      pub rowset_stop : (refusal : WireError) → r ≡ Stopped refusal → WalksRowset s (Stopped refusal)
+    module _ (few : count ≤ max_rows) (r : Result Walked WireError) (walks : WalksRows s count 0 8 r) where
+      pub rowset_stop : (refusal : WireError) → r ≡ Err refusal → WalksRowset s (Err refusal)
       unfolding read_rowset head_order
       rowset_stop refusal e rest =
-          let stopped : WalksRows s count 0 8 (Stopped refusal) = rw e at walks in
+          let stopped : WalksRows s count 0 8 (Err refusal) = rw e at walks in
           rw (sub-zero (length s), le-ltb (length s) 8 room, ← is, le-ltb max_rows count few) (stopped _)
 
-      module _ (end values : ℕ) (e : r ≡ At end values) where
-        pub rowset_trailing : end < length s → WalksRowset s (Stopped (TrailingBytes (length s - end)))
+      module _ (end values : ℕ) (e : r ≡ Ok record { next = end; values = values }) where
+        pub rowset_trailing : end < length s → WalksRowset s (Err (TrailingBytes (length s - end)))
         unfolding read_rowset head_order
         rowset_trailing h rest =
-            let passed : WalksRows s count 0 8 (At end values) = rw e at walks in
+            let passed : WalksRows s count 0 8 (Ok record { next = end; values = values }) = rw e at walks in
             rw (sub-zero (length s), le-ltb (length s) 8 room, ← is, le-ltb max_rows count few)
             (passed.3 _ ∙ rw (← passed.0, lt-ltb end (length s) h))
 
-        pub rowset_end : length s ≤ end → WalksRowset s (At end values)
+        pub rowset_end : length s ≤ end → WalksRowset s (Ok record { next = end; values = values })
         unfolding read_rowset head_order
         rowset_end h =
-            let passed : WalksRows s count 0 8 (At end values) = rw e at walks in
+            let passed : WalksRows s count 0 8 (Ok record { next = end; values = values }) = rw e at walks in
             rw (← is) (
               passed.0,
               passed.1,

@@ -74,13 +74,11 @@ fn fill_values(input: &[u8], count: u64, start: usize, values: &mut [u64], first
     ensures { (result ≡ next_values input.now count start)
         × (values.new ≡ sets values.old first (entries input.now count start)) }
 {
-    let mut left = count;
     let mut at = start;
     let mut k = first;
-    while 0 < left {
+    for _n in 0..count {
         at = fill_value(input, at, values, k);
         k += ENTRY_WORDS;
-        left -= 1;
     }
     at
 }
@@ -92,15 +90,13 @@ pub(crate) fn fill_rows(input: &[u8], count: usize, rows: &mut [u64], values: &m
     ensures { (rows.new ≡ sets rows.old 0 (row_words input.now count 8))
         × (values.new ≡ sets values.old 0 (value_words input.now count 8)) }
 {
-    let mut row = 0;
     let mut at = WORD_SIZE;
     let mut k = 0;
-    while row < count {
+    for row in 0..count {
         let word = read_u64(input, at);
         let more = values_in(word);
         rows[row] = word;
         at = fill_values(input, more, at + WORD_SIZE, values, k);
         k += ENTRY_WORDS * (more as usize);
-        row += 1;
     }
 }

@@ -8,18 +8,11 @@ ghost use Rattle.wire_read.specs.Stages.{PlainTill};
 ghost use Rattle.wire_read.specs.Statement.{TellsPlain};
 
 use super::fill::read_payload;
-use super::walk::{Walked, walk_rowset};
+use super::walk::walk_rowset;
 use wire::kind::{BOOLEAN, Kind, kind_of};
 use wire::layout::{MAX_ROWSET_SIZE, WORD_SIZE, padded, values_in};
 use wire_value::value::{Header, read_header};
 use word_read::read_u64;
-
-#[derive(Clone, Copy)]
-pub(crate) enum Plain {
-    // All values up to this offset are plain.
-    Till(usize),
-    Not,
-}
 
 // The word at `at`, which was looked for. Its bytes are lent alone: the compiler then knows that they are there.
 fn word_at(input: &[u8], at: usize) -> u64
@@ -42,14 +35,10 @@ fn zeros(input: &[u8], count: usize, start: usize) -> bool
     requires { start + count ≤ length input.now }
     ensures { result ≡ zeros input.now count start }
 {
-    let mut left = count;
-    let mut at = start;
-    while 0 < left {
+    for at in start..start + count {
         if input[at] != 0 {
             return false;
         }
-        at += 1;
-        left -= 1;
     }
     true
 }
@@ -95,22 +84,19 @@ fn next_value(input: &[u8], at: usize) -> usize
     payload.next
 }
 
-// Whether so many values are plain, and where they end.
-fn plain_values(input: &[u8], count: u64, start: usize) -> Plain
+// Where so many values end, if they are plain.
+fn plain_values(input: &[u8], count: u64, start: usize) -> Option<usize>
     requires { next_values input.now count start ≤ length input.now }
     ensures { PlainTill (plain_values input.now count start) (next_values input.now count start) result }
 {
-    let mut left = count;
     let mut at = start;
-    while 0 < left {
-        if plain_value(input, at) {
-            at = next_value(input, at);
-            left -= 1;
-        } else {
-            return Plain::Not;
+    for _n in 0..count {
+        if !plain_value(input, at) {
+            return None;
         }
+        at = next_value(input, at);
     }
-    Plain::Till(at)
+    Some(at)
 }
 
 // Whether the values of so many rows are plain.
@@ -118,18 +104,12 @@ fn plain_rows(input: &[u8], count: usize) -> bool
     requires { next_rows input.now count 8 ≤ length input.now }
     ensures { result ≡ plain_rows input.now count 8 }
 {
-    let mut row = 0;
     let mut at = WORD_SIZE;
-    while row < count {
-        match plain_values(input, values_in(word_at(input, at)), at + WORD_SIZE) {
-            Plain::Not => {
-                return false;
-            }
-            Plain::Till(next) => {
-                at = next;
-                row += 1;
-            }
-        }
+    for _row in 0..count {
+        let Some(next) = plain_values(input, values_in(word_at(input, at)), at + WORD_SIZE) else {
+            return false;
+        };
+        at = next;
     }
     true
 }
@@ -142,7 +122,7 @@ pub fn is_plain(input: &[u8]) -> bool
         return false;
     }
     match walk_rowset(input) {
-        Walked::Stopped(_) => false,
-        Walked::At(_, _) => plain_rows(input, read_u64(input, 0) as usize),
+        Err(_) => false,
+        Ok(_) => plain_rows(input, read_u64(input, 0) as usize),
     }
 }

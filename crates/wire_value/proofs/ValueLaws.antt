@@ -22,10 +22,15 @@ use Rattle.wire_value.specs.declared.value.Value.TheVariants.{Null, Int64, Uint6
 use Rattle.wire_value.specs.declared.value.Header.{Header}
 use Rattle.wire_value.specs.declared.value.UnversionedValue.{UnversionedValue}
 use Rattle.wire_value.specs.declared.value.Checked.{Checked}
-use Rattle.wire_value.specs.declared.value.Checked.TheVariants.{Passed, Failed}
-use Rattle.wire_value.specs.declared.value.ReadValue.TheVariants.{Got, Refused}
+use Rattle.std.specs.declared.result.Result.{Result}
+use Rattle.std.specs.declared.result.Result.TheVariants.{Ok, Err}
 use Rattle.wire_value.proofs.HeaderLaws.{header_kind}
-use Rattle.wire.proofs.TypeLaws.{scalar_yes, unknown_low, unknown_middle, unknown_high}
+use mathlib.Core.Logic.{◌⊎◌, inl, inr}
+use Rattle.wire.specs.Kind.{kind_of}
+use Rattle.wire.specs.declared.kind.Kind.{Kind}
+use Rattle.wire.specs.declared.kind.Kind.TheVariants as K
+use Rattle.wire.proofs.KindLaws.{no_payload, kind_blob}
+use Rattle.wire.proofs.TypeLaws.{scalar_yes, scalar_high, unknown_low, unknown_middle, unknown_high}
 
 never_more : (number : ℕ) (values : List ℕ) → refuse number values ≡ more → ⊥
 never_more number values h = let z : ◌≡◌ {A = ℕ} 0 1 = cc in omega arith
@@ -52,6 +57,12 @@ module _ (s : List ℕ) (at : ℕ) where
     pub bits_scalar : 2 < kind → kind < 7 → (n r : ℕ) → n ≡ scalar_at s at → r ≡ bits_of kind n → r ≡ bits_at s at
     unfolding bits_at
     bits_scalar low high n r is told = rw (scalar_yes (type_at s at) (omega arith) (omega arith), told, is, e)
+
+-- what is no scalar has no word
+pub no_word : (kind : ℕ) (k : Kind) → k ≡ kind_of kind → (k ≡ K.Null) ⊎ ((k ≡ K.Unknown) ⊎ (k ≡ K.Blob)) → scalar kind ≡ false
+no_word kind k e (inl is) = (no_payload kind k e (inl is)).0
+no_word kind k e (inr (inl is)) = (no_payload kind k e (inr is)).0
+no_word kind k e (inr (inr is)) = let blob = kind_blob kind k e is in scalar_high kind (omega (arith, blob.0))
 
 -- A property of the eight types holds of every known type
 
@@ -119,7 +130,7 @@ bit_flag n = by_test (eqb n 0)
 
 module _ (s : List ℕ) (at : ℕ) where
   -- the words of the value are those of its entry
-  entry_told : known (type_at s at) ≡ true → paper_value (Got (value_at s at)) ≡ accepted (next_value s at) (entry s at [])
+  entry_told : known (type_at s at) ≡ true → paper_value (Ok (value_at s at)) ≡ accepted (next_value s at) (entry s at [])
   unfolding value_at bits_at entry fourth fifth
   entry_told is =
       let words = told (type_at s at) (scalar_at s at) (at + 8) (length_at s at) is in
@@ -127,32 +138,32 @@ module _ (s : List ℕ) (at : ℕ) where
       ∙ rw (words.0, words.1, words.2, bit_flag (aggregate_at s at))
 
   -- the checks pass
-  pub value_got : (r : Checked) (header : Header) (next bits : ℕ) (value : Value) → ChecksValue s at r → r ≡ Passed header next
+  pub value_got : (r : Result Checked WireError) (header : Header) (next bits : ℕ) (value : Value) → ChecksValue s at r → r ≡ Ok record { header = header; next = next }
       → bits ≡ bits_at s at → value ≡ value_of header.kind bits (at + 8) header.length
-      → ReadsValue s at (Got (record { id = header.id; aggregate = not (eqb header.aggregate 0); value = value; bits = bits; next = next }))
+      → ReadsValue s at (Ok (record { id = header.id; aggregate = not (eqb header.aggregate 0); value = value; bits = bits; next = next }))
   unfolding header_at value_at value_reading
   value_got r header next bits value checks e b v =
-      let passed : ChecksValue s at (Passed header next) = rw e at checks in
+      let passed : ChecksValue s at (Ok record { header = header; next = next }) = rw e at checks in
       let same : record { id = header.id; aggregate = not (eqb header.aggregate 0); value = value; bits = bits; next = next } ≡ value_at s at =
       rw (v, b, passed.0, passed.1) in
-      (ap (λ (u : UnversionedValue). paper_value (Got u)) same ∙ entry_told (passes_known s at passed.2) ∙ sym (passed.2 _), same)
+      (ap (λ (u : UnversionedValue). paper_value (Ok u)) same ∙ entry_told (passes_known s at passed.2) ∙ sym (passed.2 _), same)
 
   -- a check refuses
-  pub value_refused : (r : Checked) (refusal : WireError) → ChecksValue s at r → r ≡ Failed refusal → ReadsValue s at (Refused refusal)
+  pub value_refused : (r : Result Checked WireError) (refusal : WireError) → ChecksValue s at r → r ≡ Err refusal → ReadsValue s at (Err refusal)
   unfolding value_reading
   value_refused r refusal checks e =
-      let failed : ChecksValue s at (Failed refusal) = rw e at checks in
+      let failed : ChecksValue s at (Err refusal) = rw e at checks in
       (sym (failed _), tt)
 
   -- what a passed value's header says
-  pub passed_kind : (r : Checked) (header : Header) (next : ℕ) → ChecksValue s at r → r ≡ Passed header next → header.kind ≡ type_at s at
+  pub passed_kind : (r : Result Checked WireError) (header : Header) (next : ℕ) → ChecksValue s at r → r ≡ Ok record { header = header; next = next } → header.kind ≡ type_at s at
   passed_kind r header next checks e =
-      let passed : ChecksValue s at (Passed header next) = rw e at checks in
+      let passed : ChecksValue s at (Ok record { header = header; next = next }) = rw e at checks in
       header_kind s at header passed.0
 
-  pub passed_room : (r : Checked) (header : Header) (next : ℕ) → ChecksValue s at r → Lies s r → r ≡ Passed header next → at + 8 ≤ length s
+  pub passed_room : (r : Result Checked WireError) (header : Header) (next : ℕ) → ChecksValue s at r → Lies s r → r ≡ Ok record { header = header; next = next } → at + 8 ≤ length s
   unfolding next_value
   passed_room r header next checks lies e =
-      let passed : ChecksValue s at (Passed header next) = rw e at checks in
+      let passed : ChecksValue s at (Ok record { header = header; next = next }) = rw e at checks in
       let within : next ≤ length s = rw e at lies in
       omega (arith, passed.1)

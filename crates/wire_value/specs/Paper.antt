@@ -1,14 +1,13 @@
--- Document 01's answer for each case of `ReadValue`: the five words of the value's entry, with the next offset. Assumes
+-- Document 01's answer for a value or a refusal: the five words of the value's entry, with the next offset. Assumes
 -- nothing.
-use Rattle.std.specs.Prelude.{ℕ, Bool, true, false, List, [], ◌∷◌}
+use Rattle.std.specs.Prelude.{ℕ, Bool, true, false, List, [], ◌∷◌, Result, Ok, Err}
 use Rattle.words.specs.Answer.{Answer, accepted}
 use Rattle.wire.specs.Layout.{null_type, int64, uint64, double, boolean, string, any, composite}
 use Rattle.wire.specs.Paper.{paper}
+use Rattle.wire.specs.declared.error.WireError.{WireError}
 use Rattle.wire_value.specs.declared.value.Value.{Value}
 use Rattle.wire_value.specs.declared.value.Value.TheVariants.{Null, Int64, Uint64, Double, Boolean, String, Any, Composite}
 use Rattle.wire_value.specs.declared.value.UnversionedValue.{UnversionedValue}
-use Rattle.wire_value.specs.declared.value.ReadValue.{ReadValue}
-use Rattle.wire_value.specs.declared.value.ReadValue.TheVariants.{Got, Refused}
 
 -- the entry of a value with this id, aggregate flag and a scalar's bits: its type's number stands second, a scalar's
 -- bits or a blob's offset fourth, a blob's length fifth
@@ -26,6 +25,6 @@ abbrev pub bit : Bool → ℕ
 bit true = 1
 bit false = 0
 
-abbrev pub paper_value : ReadValue → Answer
-paper_value (Got v) = accepted v.next (entry_of v.id (bit v.aggregate) v.bits v.value)
-paper_value (Refused refusal) = paper refusal
+abbrev pub paper_value : Result UnversionedValue WireError → Answer
+paper_value (Ok v) = accepted v.next (entry_of v.id (bit v.aggregate) v.bits v.value)
+paper_value (Err refusal) = paper refusal

@@ -1,13 +1,12 @@
 -- What the private stages hand on: nobody has to believe it. Assumes nothing.
-use Rattle.std.specs.Prelude.{ℕ, ◌≡◌, true, false, ◌&&◌, not, List, [], ◌∷◌}
+use Rattle.std.specs.Prelude.{ℕ, ◌≡◌, true, false, ◌&&◌, not, List, [], ◌∷◌, Result, Ok, Err}
 use Rattle.words.specs.Answer.{Answer, refuse}
 use Rattle.words.specs.Decide.{Line, ◌⇒◌, decide, ◌<?◌}
 use Rattle.wire.specs.Layout.{max_length, blob, known, payload, type_at, length_at, null_type, int64, uint64, double, boolean, string, any, composite}
 use Rattle.wire.specs.Paper.{paper}
+use Rattle.wire.specs.declared.error.WireError.{WireError}
 use Rattle.wire_value.specs.declared.value.Value.{Value}
 use Rattle.wire_value.specs.declared.value.Value.TheVariants.{Null, Int64, Uint64, Double, Boolean, String, Any, Composite}
-use Rattle.wire_value.specs.declared.value.Expected.{Expected}
-use Rattle.wire_value.specs.declared.value.Expected.TheVariants.{Payload, Refused}
 
 -- the checks that a header of this type and length word fails by itself
 abbrev pub header_order : ℕ → ℕ → List (Line Answer)
@@ -15,13 +14,13 @@ header_order type n = not (known type) ⇒ refuse 14 (type ∷ []) ∷ (blob typ
 
 -- the type is known, a blob's length is allowed, and the payload is to have so many bytes; or the refusal, whatever
 -- follows
-abbrev pub Expects : ℕ → ℕ → Expected → Type 0
-Expects type n (Payload size) = (known type ≡ true) × ((blob type && max_length <? n) ≡ false) × (payload type n ≡ size)
-Expects type n (Refused refusal) = (rest : Answer) → decide (header_order type n) rest ≡ paper refusal
+abbrev pub Expects : ℕ → ℕ → Result ℕ WireError → Type 0
+Expects type n (Ok size) = (known type ≡ true) × ((blob type && max_length <? n) ≡ false) × (payload type n ≡ size)
+Expects type n (Err refusal) = (rest : Answer) → decide (header_order type n) rest ≡ paper refusal
 
 -- so of the value at `at`
 abbrev pub Looks : List ℕ → ℕ → ℕ → Type 0
-Looks s at size = Expects (type_at s at) (length_at s at) (Payload size)
+Looks s at size = Expects (type_at s at) (length_at s at) (Ok size)
 
 -- a value's type, and the fourth and the fifth word of its entry, by themselves
 

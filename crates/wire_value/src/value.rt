@@ -14,7 +14,7 @@ use wire::kind::{
     ANY, BOOLEAN, COMPOSITE, DOUBLE, INT64, Kind, NULL, STRING, UINT64, bits_of, kind_of,
 };
 use wire::layout::{MAX_VALUE_LENGTH, WORD_SIZE, padded};
-use wire::need::{Needed, need_at};
+use wire::need::need_at;
 use word_read::read_u64;
 use words::outcome::{ACCEPTED, Outcome};
 
@@ -26,9 +26,9 @@ pub enum Value {
     Uint64(u64),
     Double(f64),
     Boolean(bool),
-    String(usize, usize),
-    Any(usize, usize),
-    Composite(usize, usize),
+    String { offset: usize, length: usize },
+    Any { offset: usize, length: usize },
+    Composite { offset: usize, length: usize },
 }
 
 #[derive(Clone, Copy)]
@@ -44,12 +44,6 @@ pub struct UnversionedValue {
 }
 
 #[derive(Clone, Copy)]
-pub enum ReadValue {
-    Got(UnversionedValue),
-    Refused(WireError),
-}
-
-#[derive(Clone, Copy)]
 pub struct Header {
     pub id: u16,
     pub kind: u8,
@@ -57,11 +51,12 @@ pub struct Header {
     pub length: u32,
 }
 
+// A value whose checks pass.
 #[derive(Clone, Copy)]
-pub enum Checked {
-    // The header, and where the next value begins.
-    Passed(Header, usize),
-    Failed(WireError),
+pub struct Checked {
+    pub header: Header,
+    // Where the next value begins.
+    pub next: usize,
 }
 
 // The four fields of a header, from one word.
@@ -77,65 +72,54 @@ pub fn read_header(input: &[u8], at: usize) -> Header
     }
 }
 
-// What is to stand behind a header.
-#[derive(Clone, Copy)]
-enum Expected {
-    // So many bytes.
-    Payload(usize),
-    Refused(WireError),
-}
-
 // 14, then 12; else how many bytes the payload has. The sizes meet in one answer, so that the bytes are looked for at
 // one place: looked for in each case by itself they make `check_value` too large to be compiled into a rowset's walk.
-fn payload_size(kind: u8, length: u32) -> Expected
+fn payload_size(kind: u8, length: u32) -> Result<usize, WireError>
     ensures { Expects kind length result }
 {
     match kind_of(kind as u64) {
-        Kind::Unknown => Expected::Refused(WireError::UnknownValueType(kind)),
-        Kind::Null => Expected::Payload(0),
-        Kind::Scalar => Expected::Payload(WORD_SIZE),
+        Kind::Unknown => Err(WireError::UnknownValueType(kind)),
+        Kind::Null => Ok(0),
+        Kind::Scalar => Ok(WORD_SIZE),
         Kind::Blob => {
             if MAX_VALUE_LENGTH < length {
-                return Expected::Refused(WireError::ValueTooLong { length });
+                return Err(WireError::ValueTooLong { length });
             }
-            Expected::Payload(padded(length))
+            Ok(padded(length))
         }
     }
 }
 
 // The payload of so many bytes: it is there, or 9.
-fn check_bytes(input: &[u8], at: usize, header: Header, size: usize) -> Checked
+fn check_bytes(input: &[u8], at: usize, header: Header, size: usize) -> Result<Checked, WireError>
     requires { (at + 8 ≤ length input.now) × (header ≡ header_at input.now at) × Looks input.now at size }
     ensures checks_value { ChecksValue input.now at result }
     ensures lies { Lies input.now result }
 {
-    match need_at(input, at + WORD_SIZE, size) {
-        Needed::Short(refusal) => Checked::Failed(refusal),
-        Needed::Enough => Checked::Passed(header, at + WORD_SIZE + size),
-    }
+    need_at(input, at + WORD_SIZE, size)?;
+    Ok(Checked {
+        header,
+        next: at + WORD_SIZE + size,
+    })
 }
 
 // The checks after the header.
-fn check_payload(input: &[u8], at: usize, header: Header) -> Checked
+fn check_payload(input: &[u8], at: usize, header: Header) -> Result<Checked, WireError>
     requires { (at + 8 ≤ length input.now) × (header ≡ header_at input.now at) }
     ensures checks_value { ChecksValue input.now at result }
     ensures lies { Lies input.now result }
 {
-    match payload_size(header.kind, header.length) {
-        Expected::Refused(refusal) => Checked::Failed(refusal),
-        Expected::Payload(size) => check_bytes(input, at, header, size),
-    }
+    let size = payload_size(header.kind, header.length)?;
+    check_bytes(input, at, header, size)
 }
 
 // The checks of the value at `at`, in their order: its header and where the next value begins, or the first refusal.
-pub fn check_value(input: &[u8], at: usize) -> Checked
+pub fn check_value(input: &[u8], at: usize) -> Result<Checked, WireError>
     ensures checks_value { ChecksValue input.now at result }
     ensures lies { Lies input.now result }
 {
-    match need_at(input, at, WORD_SIZE) {
-        Needed::Short(refusal) => Checked::Failed(refusal),
-        Needed::Enough => check_payload(input, at, read_header(input, at)),
-    }
+    need_at(input, at, WORD_SIZE)?;
+    check_payload(input, at, read_header(input, at))
 }
 
 fn int64(bits: u64) -> i64
@@ -157,31 +141,20 @@ fn double(bits: u64) -> f64
     f64::from_bits(bits)
 }
 
+#[tactic(auto, unfolding(crate::specs::ValueOf::value_of))]
 fn value_of(kind: u64, bits: u64, offset: usize, length: usize) -> Value
     ensures { result ≡ value_of kind bits offset length }
 {
-    if kind == INT64 {
-        return Value::Int64(int64(bits));
+    match kind {
+        INT64 => Value::Int64(int64(bits)),
+        UINT64 => Value::Uint64(bits),
+        DOUBLE => Value::Double(double(bits)),
+        BOOLEAN => Value::Boolean(bits != 0),
+        STRING => Value::String { offset, length },
+        ANY => Value::Any { offset, length },
+        COMPOSITE => Value::Composite { offset, length },
+        _ => Value::Null,
     }
-    if kind == UINT64 {
-        return Value::Uint64(bits);
-    }
-    if kind == DOUBLE {
-        return Value::Double(double(bits));
-    }
-    if kind == BOOLEAN {
-        return Value::Boolean(bits != 0);
-    }
-    if kind == STRING {
-        return Value::String(offset, length);
-    }
-    if kind == ANY {
-        return Value::Any(offset, length);
-    }
-    if kind == COMPOSITE {
-        return Value::Composite(offset, length);
-    }
-    Value::Null
 }
 
 // The bits beside a value: a scalar's, 0 for the other types.
@@ -190,31 +163,25 @@ fn bits_at(input: &[u8], at: usize, kind: u8) -> u64
     ensures { result ≡ bits_at input.now at }
 {
     match kind_of(kind as u64) {
-        Kind::Null => 0,
-        Kind::Unknown => 0,
-        Kind::Blob => 0,
+        Kind::Null | Kind::Unknown | Kind::Blob => 0,
         Kind::Scalar => bits_of(kind as u64, read_u64(input, at + WORD_SIZE)),
     }
 }
 
 // The value at `at`, or the first refusal.
-pub fn read_value(input: &[u8], at: usize) -> ReadValue
+pub fn read_value(input: &[u8], at: usize) -> Result<UnversionedValue, WireError>
     ensures { ReadsValue input.now at result }
 {
-    match check_value(input, at) {
-        Checked::Failed(refusal) => ReadValue::Refused(refusal),
-        Checked::Passed(header, next) => {
-            let kind = header.kind;
-            let bits = bits_at(input, at, kind);
-            ReadValue::Got(UnversionedValue {
-                id: header.id,
-                aggregate: header.aggregate != 0,
-                value: value_of(kind as u64, bits, at + WORD_SIZE, header.length as usize),
-                bits,
-                next,
-            })
-        }
-    }
+    let Checked { header, next } = check_value(input, at)?;
+    let kind = header.kind;
+    let bits = bits_at(input, at, kind);
+    Ok(UnversionedValue {
+        id: header.id,
+        aggregate: header.aggregate != 0,
+        value: value_of(kind as u64, bits, at + WORD_SIZE, header.length as usize),
+        bits,
+        next,
+    })
 }
 
 // The type's code.
@@ -227,9 +194,9 @@ fn value_type(value: Value) -> u64
         Value::Uint64(_) => UINT64,
         Value::Double(_) => DOUBLE,
         Value::Boolean(_) => BOOLEAN,
-        Value::String(_, _) => STRING,
-        Value::Any(_, _) => ANY,
-        Value::Composite(_, _) => COMPOSITE,
+        Value::String { .. } => STRING,
+        Value::Any { .. } => ANY,
+        Value::Composite { .. } => COMPOSITE,
     }
 }
 
@@ -237,14 +204,10 @@ fn value_word(value: Value, bits: u64) -> u64
     ensures { result ≡ offset_or value bits }
 {
     match value {
-        Value::Null => bits,
-        Value::Int64(_) => bits,
-        Value::Uint64(_) => bits,
-        Value::Double(_) => bits,
-        Value::Boolean(_) => bits,
-        Value::String(offset, _) => offset as u64,
-        Value::Any(offset, _) => offset as u64,
-        Value::Composite(offset, _) => offset as u64,
+        Value::String { offset, .. }
+        | Value::Any { offset, .. }
+        | Value::Composite { offset, .. } => offset as u64,
+        _ => bits,
     }
 }
 
@@ -252,30 +215,26 @@ fn value_length(value: Value) -> u64
     ensures { result ≡ length_of value }
 {
     match value {
-        Value::Null => 0,
-        Value::Int64(_) => 0,
-        Value::Uint64(_) => 0,
-        Value::Double(_) => 0,
-        Value::Boolean(_) => 0,
-        Value::String(_, length) => length as u64,
-        Value::Any(_, length) => length as u64,
-        Value::Composite(_, length) => length as u64,
+        Value::String { length, .. }
+        | Value::Any { length, .. }
+        | Value::Composite { length, .. } => length as u64,
+        _ => 0,
     }
 }
 
 fn bit(flag: bool) -> u64
     ensures { result ≡ bit flag }
 {
-    if flag { 1 } else { 0 }
+    u64::from(flag)
 }
 
 // The value's five words and the next offset, or the refusal, as document 01's number and values.
-pub fn outcome(answer: ReadValue) -> Outcome
+pub fn outcome(answer: Result<UnversionedValue, WireError>) -> Outcome
     ensures { Tells (paper_value answer) result }
 {
     match answer {
-        ReadValue::Refused(error) => wire::error::outcome(error),
-        ReadValue::Got(read) => {
+        Err(error) => Outcome::from(error),
+        Ok(read) => {
             let value = read.value;
             Outcome {
                 kind: ACCEPTED,

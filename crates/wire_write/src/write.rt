@@ -13,15 +13,9 @@ ghost use Rattle.wire_write.specs.Stages.{Puts, header_bytes, blob_bytes};
 use wire::error::WireError;
 use wire::kind::{Kind, kind_of};
 use wire::layout::{ENTRY_WORDS, WORD_SIZE, values_in};
-use wire_check::size::{Measured, encoded_size};
+use wire_check::size::encoded_size;
 use word_write::{write_bytes, write_u64, write_zeros};
 use words::outcome::{NoRoom, Outcome, Room, taken};
-
-#[derive(Clone, Copy)]
-pub enum Encoded {
-    Written(usize),
-    Refused(WireError),
-}
 
 // The four fields of a header as one word.
 fn header(id: u64, kind: u64, aggregate: u64, length: u64) -> u64
@@ -101,11 +95,9 @@ fn write_values(area: &[u8], values: &[u64], start: usize, count: usize, out: &m
 {
     let mut at = 0;
     let mut k = start;
-    let mut left = count;
-    while 0 < left {
+    for _n in 0..count {
         at += write_entry(area, values, k, &mut out[at..]);
         k += ENTRY_WORDS;
-        left -= 1;
     }
     at
 }
@@ -132,44 +124,42 @@ fn write_rows(area: &[u8], rows: &[u64], values: &[u64], out: &mut [u8]) -> usiz
 {
     let mut at = 0;
     let mut k = 0;
-    let mut i = 0;
-    while i < rows.len() {
-        let count = rows[i];
-        at += write_row(area, values, count, k, &mut out[at..]);
-        k += ENTRY_WORDS * (values_in(count) as usize);
-        i += 1;
+    for count in rows {
+        at += write_row(area, values, *count, k, &mut out[at..]);
+        k += ENTRY_WORDS * (values_in(*count) as usize);
     }
     at
 }
 
 // Writes the rowset of the tables over the front of the output; a refusal leaves it as it was.
-pub fn encode_rowset(area: &[u8], rows: &[u64], values: &[u64], out: &mut [u8]) -> Encoded
+pub fn encode_rowset(
+    area: &[u8],
+    rows: &[u64],
+    values: &[u64],
+    out: &mut [u8],
+) -> Result<usize, WireError>
     ensures { Encodes area.now rows.now values.now out.old result
         out.new }
 {
-    match encoded_size(area, rows, values) {
-        Measured::Refused(refusal) => Encoded::Refused(refusal),
-        Measured::Size(size) => {
-            if out.len() < size {
-                return Encoded::Refused(WireError::NoRoom(NoRoom {
-                    room: Room::Output,
-                    needed: size as u64,
-                    given: out.len() as u64,
-                }));
-            }
-            write_u64(out, rows.len() as u64);
-            write_rows(area, rows, values, &mut out[8..]);
-            Encoded::Written(size)
-        }
+    let size = encoded_size(area, rows, values)?;
+    if out.len() < size {
+        return Err(WireError::NoRoom(NoRoom {
+            room: Room::Output,
+            needed: size as u64,
+            given: out.len() as u64,
+        }));
     }
+    write_u64(out, rows.len() as u64);
+    write_rows(area, rows, values, &mut out[8..]);
+    Ok(size)
 }
 
 // The bytes written, or the refusal, as document 01's number and values.
-pub fn outcome(answer: Encoded) -> Outcome
+pub fn outcome(answer: Result<usize, WireError>) -> Outcome
     ensures { Tells (paper_encoded answer) result }
 {
     match answer {
-        Encoded::Written(size) => taken(size as u64, 0, 0, 0),
-        Encoded::Refused(error) => wire::error::outcome(error),
+        Ok(size) => taken(size as u64, 0, 0, 0),
+        Err(error) => Outcome::from(error),
     }
 }
