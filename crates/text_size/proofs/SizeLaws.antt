@@ -260,8 +260,9 @@ RowsLeft area rows table size k i =
     × (size + length (rows_text area (drop i rows) table k) ≡ length (rows_text area rows table 0))
 
 module _ (area table : List ℕ) (start count size k left : ℕ) (so_far : ValuesLeft area table start count size k left) (some : 0 < left) where
-  pub values_go : (n : ℕ) → n ≡ length (entry_text area table k) → ValuesLeft area table start count (size + (n + 1)) (k + entry_words) (left - 1)
-  values_go n e = (omega arith, omega arith, values_size_more area table left k _ size n some so_far.2 e)
+  pub values_go : (n : ℕ) → n ≡ length (entry_text area table k) → (fewer : ℕ) → fewer ≡ left - 1
+      → ValuesLeft area table start count (size + (n + 1)) (k + entry_words) fewer
+  values_go n e fewer is = rw is (omega arith, omega arith, values_size_more area table left k _ size n some so_far.2 e)
 
   -- the next value is no longer than what is left
   pub entry_short : size + (length (entry_text area table k) + 1) ≤ length (values_text area table count start)

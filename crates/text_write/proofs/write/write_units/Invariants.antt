@@ -1,0 +1,5 @@
+use Rattle.text_write.proofs.PutLaws.{UnitsToGo}
+use Rattle.text_write.proofs.write.write_units.Given as goal
+
+abbrev pub invariant-loop-byte : goal.invariant-loop-byte
+invariant-loop-byte l = UnitsToGo l.bytes l.initial.out l.out l.at l.byte-index
