@@ -15,11 +15,13 @@ fn walked_outcome(answer: Result<Walked, TextError>) -> Outcome
     ensures { Tells (walked_paper answer) result }
 {
     match answer {
-        Ok(Walked {
-            rows,
-            values,
-            bytes,
-        }) => taken(bytes as u64, rows as u64, values as u64, 0),
+        Ok(
+            Walked {
+                rows,
+                values,
+                bytes,
+            },
+        ) => taken(bytes as u64, rows as u64, values as u64, 0),
         Err(error) => Outcome::from(error),
     }
 }

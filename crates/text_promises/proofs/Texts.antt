@@ -1,12 +1,12 @@
 -- The promises of a rowset's text. Assumes nothing.
 use mathlib.Core.Path.{◌≡◌, refl, sym, ◌∙◌, ap}
-use mathlib.Core.Bool.{Bool, true, false, not, ◌&&◌}
+use mathlib.Core.Bool.{Bool, true, false}
 use mathlib.Core.List.{List, [], ◌∷◌, ◌++◌}
-use mathlib.Core.Logic.{◌⊎◌, inl, inr, ⊎_elim}
-use Prim.Native.Nat.{ℕ, zero, suc, ◌+◌, ◌*◌, ◌/◌, ◌%◌, ◌^◌, ◌<◌, ◌≤◌}
+use mathlib.Core.Logic.{◌⊎◌, inl, inr}
+use Prim.Native.Nat.{ℕ, ◌+◌, ◌*◌, ◌/◌, ◌≤◌}
 use native.Mathlib.Omega.{arith}
 use borrow.Author.Tests.{le-ltb, ltb-false, eqb-true}
-use lib.ListN.{length, get_or, take, drop, length-append}
+use lib.ListN.{length, take, drop, length-append}
 use lib.Seq.{take_at}
 use Rattle.words.specs.Answer.{Answer, accepted, more, refused, refuse, afterwards}
 use Rattle.words.specs.Buffer.{over}
@@ -26,7 +26,6 @@ use Rattle.wire.specs.declared.error.WireError.{WireError}
 use Rattle.wire.specs.declared.error.WireError.TheVariants.{Truncated, TooManyRows, TooManyValues, ValueTooLong, RowsetTooLarge, UnknownValueType, TrailingBytes, NoRoom, BadTable}
 use Rattle.wire.proofs.PaperLaws.{paper_injective, paper_never_accepted}
 use Rattle.wire_check.specs.Writing.{total, check_lines, rowset_size, measuring, writing}
-use Rattle.wire_check.specs.Stages.{Sound}
 use Rattle.wire_check.proofs.TableLaws.{by_test}
 use Rattle.wire_check.specs.Paper.{paper_measured}
 use Rattle.std.specs.declared.result.Result.{Result}
@@ -41,15 +40,12 @@ use Rattle.text_write.specs.Statement.{writing_text, WritesText}
 use Rattle.text_steps.specs.Tables.{cells_of, all_cells, row_word, row_table, value_table, area_bytes}
 use Rattle.text_walk.specs.Paper.{text_paper, walked_paper}
 use Rattle.text_walk.specs.Statement.{walking, ending_as, counts, counting}
-use Rattle.text_walk.specs.declared.error.TextError.{TextError}
-use Rattle.text_walk.specs.declared.error.TextError.TheVariants.{BadText, Limit}
-use Rattle.text_walk.specs.declared.walk.Walked.{Walked}
 use Rattle.text_walk.proofs.Unique.{walked_of, walked_back}
 use Rattle.text_read.specs.Statement.{rows_read, roomed, reading_text, ReadsText}
 use Rattle.text_read.proofs.AnswerLaws.{text_not_taken}
 use Rattle.text_read.proofs.TextLaws.{length_row_table, length_value_table}
 use Rattle.text_promises.specs.Texts.{counted, WithinLimits, HasRoom, CountAcceptsExactly, CountPlace, TextAcceptsExactly, TextPlace, TextRefusalKeeps, TextAndBack, TablesAndBack, WrittenAndBack}
-use Rattle.text_promises.specs.Texts.{TextOnce, SizesRefuseAlike, NotForRoom, WritersRefuseAlike, Words, WrittenIsText}
+use Rattle.text_promises.specs.Texts.{TextOnce, SizesRefuseAlike, NotForRoom, WritersRefuseAlike, WrittenIsText}
 use Rattle.text_form.specs.Walk.{start}
 use Rattle.text_promises.proofs.Refusals.{passes_or_not, passes, checks_refuse, silent_where_accepted}
 use Rattle.text_promises.proofs.Tables.{sound_tables, tables_fit}

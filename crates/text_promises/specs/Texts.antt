@@ -5,7 +5,7 @@ use Rattle.words.specs.Buffer.{over}
 use Rattle.words.specs.Word.{Bytes}
 use Rattle.places.specs.Place.{Place}
 use Rattle.wire.specs.Layout.{entry_words, max_rows, max_values, max_length, max_size}
-use Rattle.wire.specs.Content.{Content, Cell, Row, rows_in, bytes_of_rows}
+use Rattle.wire.specs.Content.{Cell, Row, rows_in, bytes_of_rows}
 use Rattle.wire.specs.declared.error.WireError.{WireError}
 use Rattle.wire.specs.declared.error.WireError.TheVariants.{Truncated, TooManyRows, TooManyValues, ValueTooLong, RowsetTooLarge, UnknownValueType, TrailingBytes, NoRoom, BadTable}
 use Rattle.wire_check.specs.Statement.{Measures}

@@ -216,7 +216,9 @@ fn read_payload(text: &[u8], at: usize, kind: u64, area: &mut [u8], used: usize)
     }
 }
 
-// A value whose id begins with `first`, and the byte behind it: its entry to the word `k` of the table on.
+// A value whose id begins with `first`, and the byte behind it: its entry to the word `k` of the table on. The tables,
+// the area and how far each is filled are parameters of their own, here and in the two functions below: the clauses say
+// of each slice by its name what it was and what it is.
 fn fill_value(
     text: &[u8],
     at: usize,

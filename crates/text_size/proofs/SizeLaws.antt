@@ -15,7 +15,7 @@ use Rattle.words.proofs.DecideLaws.{pick_case}
 use Rattle.numerals.specs.Statement.{decimal}
 use Rattle.numerals.proofs.SpelledLaws.{length_lowest, lowest, length_spelled_most}
 use Rattle.wire.specs.Layout.{null_mark, entry_words, scalar, blob, payload, flag, values_in}
-use Rattle.wire.specs.Content.{Cell, Row, null, values, content_in, cell_in, cells_in, row_in, rows_from}
+use Rattle.wire.specs.Content.{Cell, null, values, cell_in, cells_in, row_in, rows_from}
 use Rattle.wire.proofs.TypeLaws.{scalar_yes, scalar_low, blob_yes, blob_low}
 use Rattle.wire_check.specs.Writing.{total, size_of, value_size, values_size, row_size, rows_size, rowset_size}
 use Rattle.wire_check.proofs.TableLaws.{by_test, total_more}

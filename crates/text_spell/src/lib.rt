@@ -12,7 +12,8 @@ use wire::kind::{ANY, BOOLEAN, COMPOSITE, DOUBLE, INT64, NULL, STRING, UINT64};
 // The hex digits of a scalar's word.
 pub const WORD_DIGITS: usize = 16;
 
-// The letter of a type, 0 for a type that is not known.
+// The letter of a type, 0 for a type that is not known. No `Option`: `letter_of` of the rows' form is a function to
+// bytes, and the clause is the equation with it. So it is with the functions below that answer 0 or 16.
 #[tactic(auto, unfolding(text_form::specs::Form::letter_of))]
 pub fn letter(kind: u64) -> u8
     ensures { IsLetter kind result }
@@ -52,13 +53,7 @@ pub fn type_of(byte: u8) -> u64
 pub fn is_escaped(byte: u8) -> bool
     ensures { TellsEscaped byte result }
 {
-    if byte < 0x21 {
-        return true;
-    }
-    if 0x7e < byte {
-        return true;
-    }
-    byte == b'%'
+    byte < 0x21 || 0x7e < byte || byte == b'%'
 }
 
 // The small letter or the digit of this value, without a test: digits come as they will.

@@ -222,13 +222,7 @@ fn check_word(text: &[u8], start: usize, kind: u64) -> Result<usize, BadPlace>
 fn high_fits(value: u32) -> bool
     ensures { result ≡ fits_high value }
 {
-    if value < 3 {
-        return true;
-    }
-    if value < 7 {
-        return false;
-    }
-    value < 16
+    matches!(value, 0..=2 | 7..=15)
 }
 
 // The two digits behind a percent sign, one after the other, so that the first that does not fit has its place.
@@ -257,13 +251,23 @@ fn place_escape(text: &[u8], at: usize) -> Result<usize, BadPlace>
     Ok(second + 1)
 }
 
-// Whether this is the high digit of escaped bytes alone.
+// Whether this is the high digit of escaped bytes alone. One arm for each digit, here and below: such a `match` on a
+// byte compiles to a table, patterns of ranges to one test behind the other.
 #[tactic(auto, unfolding(text_form::specs::Walk::capital_value))]
 fn is_high(high: u8) -> bool
     ensures { result ≡ true → High (capital_value high) }
 {
     match high {
-        b'0' | b'1' | b'8' | b'9' | b'A'..=b'F' => true,
+        b'0' => true,
+        b'1' => true,
+        b'8' => true,
+        b'9' => true,
+        b'A' => true,
+        b'B' => true,
+        b'C' => true,
+        b'D' => true,
+        b'E' => true,
+        b'F' => true,
         _ => false,
     }
 }
@@ -274,7 +278,22 @@ fn is_low(low: u8) -> bool
     ensures { result ≡ true → capital_value low ≤ 15 }
 {
     match low {
-        b'0'..=b'9' | b'A'..=b'F' => true,
+        b'0' => true,
+        b'1' => true,
+        b'2' => true,
+        b'3' => true,
+        b'4' => true,
+        b'5' => true,
+        b'6' => true,
+        b'7' => true,
+        b'8' => true,
+        b'9' => true,
+        b'A' => true,
+        b'B' => true,
+        b'C' => true,
+        b'D' => true,
+        b'E' => true,
+        b'F' => true,
         _ => false,
     }
 }
@@ -348,10 +367,7 @@ fn check_units(text: &[u8], start: usize) -> Result<Blob, TextError>
 fn ends_value(byte: u8) -> bool
     ensures { result ≡ (byte =? tab || byte =? line_feed) }
 {
-    if byte == b'\t' {
-        return true;
-    }
-    byte == b'\n'
+    byte == b'\t' || byte == b'\n'
 }
 
 // The tab or line feed behind a value of so many blob bytes, with which the rowset has this size: 13 where that is too
@@ -412,10 +428,7 @@ fn check_value(text: &[u8], start: usize, first: u64, size: usize) -> Result<Val
 fn is_digit(byte: u8) -> bool
     ensures { result ≡ is_digit byte }
 {
-    if byte < b'0' {
-        return false;
-    }
-    byte < 58
+    byte.is_ascii_digit()
 }
 
 // The values of a line whose first byte is a digit, in the row of this number; with the row's word the rowset has the
@@ -487,13 +500,7 @@ fn check_null(text: &[u8], at: usize, size: usize) -> Result<Line, TextError>
 fn begins_line(byte: u8) -> bool
     ensures { result ≡ (byte =? line_feed || byte =? null_sign || is_digit byte) }
 {
-    if byte == b'\n' {
-        return true;
-    }
-    if byte == b'#' {
-        return true;
-    }
-    is_digit(byte)
+    byte == b'\n' || byte == b'#' || is_digit(byte)
 }
 
 // The line of the row of this number; before it the rowset has this size.

@@ -10,7 +10,7 @@ ghost use Rattle.text_form.specs.Form.{unit, units, hexes, head, row_text};
 ghost use Rattle.text_write.specs.Statement.{WritesText};
 ghost use Rattle.text_size.specs.Stages.{value_text, entry_text, values_text, rows_text};
 
-use super::spell::{capital_digit, separator, small_digit};
+use super::spell::{CAPITAL, SMALL, hex_digit, separator};
 use numerals::write_decimal;
 use text_size::text_size;
 use text_spell::{WORD_DIGITS, is_escaped, letter};
@@ -42,7 +42,7 @@ fn write_word(word: u64, out: &mut [u8]) -> usize
 {
     let mut rest = word;
     for at in (0..WORD_DIGITS).rev() {
-        out[at] = small_digit((rest % 16) as u8);
+        out[at] = hex_digit::<SMALL>((rest % 16) as u8);
         rest /= 16;
     }
     WORD_DIGITS
@@ -55,8 +55,8 @@ fn write_unit(byte: u8, out: &mut [u8]) -> usize
 {
     if is_escaped(byte) {
         out[0] = b'%';
-        out[1] = capital_digit(byte / 16);
-        out[2] = capital_digit(byte % 16);
+        out[1] = hex_digit::<CAPITAL>(byte / 16);
+        out[2] = hex_digit::<CAPITAL>(byte % 16);
         return 3;
     }
     out[0] = byte;

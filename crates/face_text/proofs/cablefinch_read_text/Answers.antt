@@ -1,6 +1,5 @@
 -- `cablefinch_read_text` meets its contract: the library's answer in words, its tables and its area. Assumes nothing.
 use Rattle.words.proofs.PaperLaws.{told}
-use borrow.Author.Rules.{rules}
 use Rattle.face_text.proofs.cablefinch_read_text.Goals as goal
 
 pub returns : goal.returns

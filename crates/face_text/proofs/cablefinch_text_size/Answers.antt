@@ -1,6 +1,5 @@
 -- `cablefinch_text_size` meets its contract: the library's answer in words. Assumes nothing.
 use Rattle.words.proofs.PaperLaws.{told}
-use borrow.Author.Rules.{rules}
 use Rattle.face_text.proofs.cablefinch_text_size.Goals as goal
 
 pub returns : goal.returns

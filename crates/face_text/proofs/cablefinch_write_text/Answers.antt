@@ -1,6 +1,5 @@
 -- `cablefinch_write_text` meets its contract: the library's answer in words, and its bytes. Assumes nothing.
 use Rattle.words.proofs.PaperLaws.{told}
-use borrow.Author.Rules.{rules}
 use Rattle.face_text.proofs.cablefinch_write_text.Goals as goal
 
 pub returns : goal.returns

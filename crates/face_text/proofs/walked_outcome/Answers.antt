@@ -1,7 +1,6 @@
 -- `walked_outcome` meets its contract. Assumes nothing.
 use Rattle.wire.proofs.PaperLaws.{case}
 use Rattle.text_walk.specs.Paper.{walked_paper}
-use borrow.Author.Rules.{rules}
 use Rattle.face_text.proofs.walked_outcome.Goals as goal
 
 pub returns-in-Ok : goal.returns-in-Ok

@@ -1,6 +1,5 @@
 -- `head_size` meets its contract. Assumes nothing.
 use native.Mathlib.Omega.{arith}
-use borrow.Author.Rules.{rules}
 use Rattle.text_size.proofs.SizeLaws.{head_length, decimal_most, flag_most}
 use Rattle.text_size.proofs.head_size.Goals as goal
 

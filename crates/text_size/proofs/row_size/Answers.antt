@@ -1,8 +1,6 @@
 -- `row_size` meets its contract: a null row, an empty one, or one with values. Assumes nothing.
 use mathlib.Core.Path.{sym, ◌∙◌, ap}
 use native.Mathlib.Omega.{arith}
-use borrow.Author.Rules.{rules}
-use borrow.Author.Tests.{ne_eqb}
 use lib.ListN.{length}
 use Rattle.text_size.proofs.SizeLaws.{row_null, row_empty, row_values, row_count}
 use Rattle.text_size.proofs.row_size.Goals as goal

@@ -1,10 +1,8 @@
 -- `rows_size` meets its contract. The invariant: what is still to come makes up the whole. Assumes nothing.
-use mathlib.Core.Path.{◌≡◌, refl, ap}
-use Prim.Native.Nat.{◌-◌}
+use mathlib.Core.Path.{ap}
 use native.Mathlib.Omega.{arith}
-use borrow.Author.Rules.{rules}
 use lib.ListN.{length}
-use Rattle.text_size.proofs.SizeLaws.{RowsLeft, rows_go, row_fits, row_short, rows_none}
+use Rattle.text_size.proofs.SizeLaws.{rows_go, row_fits, row_short, rows_none}
 use Rattle.text_size.proofs.rows_size.Goals as goal
 
 pub row_size-size-requires : goal.row_size-size-requires

@@ -1,3 +1,4 @@
+-- What `rows_size` keeps true in its loop. Assumes nothing.
 use Rattle.text_size.proofs.SizeLaws.{RowsLeft}
 use Rattle.text_size.proofs.rows_size.Given as goal
 

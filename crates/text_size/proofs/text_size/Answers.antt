@@ -1,6 +1,5 @@
 -- `text_size` meets its contract: the checks refuse, or the text is measured. Assumes nothing.
 use Rattle.std.proofs.lemmas.Result.{err_from_is_err_and}
-use borrow.Author.Rules.{rules}
 use Rattle.text_size.proofs.AnswerLaws.{size_refused, tables_good, tables_whole, text_short, size_told}
 use Rattle.text_size.proofs.text_size.Goals as goal
 

@@ -1,5 +1,4 @@
 -- `unit_size` meets its contract. Assumes nothing.
-use borrow.Author.Rules.{rules}
 use mathlib.Core.Path.{sym, ◌∙◌}
 use Rattle.text_size.proofs.SizeLaws.{unit_escaped, unit_plain}
 use Rattle.text_size.proofs.unit_size.Goals as goal

@@ -1,10 +1,7 @@
 -- `units_size` meets its contract. The invariant: what is still to come makes up the whole. Assumes nothing.
-use mathlib.Core.Path.{◌≡◌, refl, sym, ◌∙◌, ap}
-use Prim.Native.Nat.{◌+◌, ◌-◌}
+use mathlib.Core.Path.{ap}
 use native.Mathlib.Omega.{arith}
-use borrow.Author.Rules.{rules}
-use lib.ListN.{length, drop}
-use Rattle.text_form.specs.Form.{units}
+use lib.ListN.{length}
 use Rattle.text_size.proofs.SizeLaws.{units_size_more, units_none}
 use Rattle.text_size.proofs.units_size.Goals as goal
 

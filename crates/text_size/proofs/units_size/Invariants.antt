@@ -1,3 +1,4 @@
+-- What `units_size` keeps true in its loop. Assumes nothing.
 use Rattle.std.proofs.Common.{◌≡◌, ◌+◌}
 use lib.ListN.{length, drop}
 use Rattle.text_form.specs.Form.{units}

@@ -1,12 +1,10 @@
 -- `value_size` meets its contract: the head, then what the kind has behind it. Assumes nothing.
-use mathlib.Core.Path.{◌≡◌, sym, ◌∙◌, ap}
+use mathlib.Core.Path.{sym, ◌∙◌, ap}
 use mathlib.Core.Bool.{true≢false}
-use Prim.Native.Nat.{ℕ, ◌+◌, ◌-◌}
 use mathlib.Core.Logic.{inl, inr}
 use native.Mathlib.Omega.{arith}
 use borrow.Author.Rules.{rules}
-use lib.ListN.{length, take, drop}
-use Rattle.text_form.specs.Form.{units}
+use lib.ListN.{length}
 use Rattle.wire.proofs.KindLaws.{kind_null, kind_scalar, kind_blob, kind_unknown}
 use Rattle.wire_write.proofs.LengthLaws.{good_known, good_stretch}
 use Rattle.text_size.proofs.SizeLaws.{size_null, size_scalar, size_blob, same_stretch}
@@ -52,11 +50,12 @@ pub returns-in-Null : goal.returns-in-Null
 returns-in-Null c =
     let a = c.args in
     elim c.in-Null.is [
-      inl e ↦
+      | inl e ↦
           let null = kind_null a.kind _ c.kind_of.ensures e in
           c.head_size-start.ensures
           ∙ sym (size_null a.area.now a.id a.kind a.aggregate a.bits a.length (omega (arith, null)))
-    | inr e ↦
+      | inr e ↦
           absurd (true≢false
           (sym (good_known (length a.area.now) a.id a.kind a.aggregate a.bits a.length c.requires.0)
-          ∙ (kind_unknown a.kind _ c.kind_of.ensures e).0)) ]
+          ∙ (kind_unknown a.kind _ c.kind_of.ensures e).0))
+    ]

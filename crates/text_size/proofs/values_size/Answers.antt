@@ -4,7 +4,7 @@ use Prim.Native.Nat.{◌-◌}
 use native.Mathlib.Nat.{sub-zero}
 use native.Mathlib.Omega.{arith}
 use lib.ListN.{length}
-use Rattle.text_size.proofs.SizeLaws.{ValuesLeft, values_go, entry_short, values_none}
+use Rattle.text_size.proofs.SizeLaws.{values_go, entry_short, values_none}
 use Rattle.text_size.proofs.values_size.Goals as goal
 
 pub loop-n-init : goal.loop-n-init

@@ -1,3 +1,4 @@
+-- What `values_size` keeps true in its loop. Assumes nothing.
 use Rattle.std.proofs.Common.{◌-◌}
 use Rattle.text_size.proofs.SizeLaws.{ValuesLeft}
 use Rattle.text_size.proofs.values_size.Given as goal

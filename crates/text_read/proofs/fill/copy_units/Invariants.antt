@@ -1,3 +1,4 @@
+-- What `fill::copy_units` keeps true in its loop. Assumes nothing.
 use Prim.Native.Nat.{◌-◌}
 use lib.ListN.{length}
 use Rattle.text_read.proofs.CopyLaws.{UnitsLeft}

@@ -1,3 +1,4 @@
+-- What `fill::read_id` keeps true in its loop. Assumes nothing.
 use Rattle.text_read.proofs.FillLaws.{IdLeft}
 use Rattle.text_read.proofs.fill.read_id.Given as goal
 

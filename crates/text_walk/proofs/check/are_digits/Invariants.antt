@@ -1,3 +1,4 @@
+-- What `check::are_digits` keeps true in its loop. Assumes nothing.
 use mathlib.Core.Path.{◌≡◌}
 use Prim.Native.Nat.{◌-◌}
 use Rattle.text_walk.specs.Stages.{Digits}

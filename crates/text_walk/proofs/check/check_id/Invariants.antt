@@ -1,3 +1,4 @@
+-- What `check::check_id` keeps true in its loop. Assumes nothing.
 use Rattle.text_walk.proofs.CheckLaws.{IdLeft}
 use Rattle.text_walk.proofs.check.check_id.Given as goal
 

@@ -1,3 +1,4 @@
+-- What `check::place_word` keeps true in its loop. Assumes nothing.
 use Prim.Native.Nat.{◌+◌, ◌-◌}
 use Rattle.text_walk.proofs.CheckLaws.{WordLeft}
 use Rattle.text_walk.proofs.check.place_word.Given as goal

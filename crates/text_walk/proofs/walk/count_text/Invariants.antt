@@ -1,3 +1,4 @@
+-- What `walk::count_text` keeps true in its loop. Assumes nothing.
 use Prim.Native.Nat.{◌-◌}
 use lib.ListN.{length}
 use Rattle.text_walk.proofs.CheckLaws.{TextLeft}

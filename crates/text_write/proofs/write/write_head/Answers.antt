@@ -2,7 +2,6 @@
 use native.Mathlib.Omega.{arith}
 use lib.ListN.{length-set}
 use Rattle.text_write.proofs.PutLaws.{colon_within, sign_within, signed_puts, plain_puts}
-use borrow.Author.Rules.{rules}
 use Rattle.text_write.proofs.write.write_head.Goals as goal
 
 pub bounds-out-colon : goal.bounds-out-colon

@@ -1,11 +1,9 @@
 -- `write::write_row` meets its contract: a null row, an empty one, or one with values. Assumes nothing.
-use mathlib.Core.Path.{sym, ◌∙◌, ap}
+use mathlib.Core.Path.{ap}
 use native.Mathlib.Omega.{arith}
 use lib.ListN.{length, length-set}
-use Rattle.words.specs.Buffer.{over}
 use Rattle.text_size.proofs.SizeLaws.{row_null, row_empty, row_values, row_count}
 use Rattle.text_write.proofs.PutLaws.{line_within, null_line, empty_line, same_puts}
-use borrow.Author.Rules.{rules}
 use Rattle.text_write.proofs.write.write_row.Goals as goal
 
 pub bounds-out-0 : goal.bounds-out-0

@@ -1,11 +1,8 @@
 -- `write::write_rows` meets its contract. The invariant: what is still to come goes behind what stands in front. Assumes nothing.
 use mathlib.Core.Path.{refl}
-use Prim.Native.Nat.{◌-◌}
 use native.Mathlib.Omega.{arith}
-use lib.ListN.{length}
 use Rattle.wire_write.proofs.FillingLaws.{length_now, room_left}
-use Rattle.text_write.proofs.PutLaws.{RowsToGo, rows_start, row_within, row_inside, row_room, rows_step, rows_done}
-use borrow.Author.Rules.{rules}
+use Rattle.text_write.proofs.PutLaws.{rows_start, row_within, row_inside, row_room, rows_step, rows_done}
 use Rattle.text_write.proofs.write.write_rows.Goals as goal
 
 pub loop-count-init : goal.loop-count-init

@@ -1,3 +1,4 @@
+-- What `write::write_rows` keeps true in its loop. Assumes nothing.
 use Rattle.text_write.proofs.PutLaws.{RowsToGo}
 use Rattle.text_write.proofs.write.write_rows.Given as goal
 

@@ -1,7 +1,6 @@
 -- `write::write_text` meets its contract: the checks refuse, the room is short, or the rows are written. Assumes nothing.
 use Rattle.text_write.proofs.AnswerLaws.{write_refused, write_short, writer_good, writer_whole, text_room_lem, write_done}
 use Rattle.std.proofs.lemmas.Result.{err_from_is_err_and}
-use borrow.Author.Rules.{rules}
 use Rattle.text_write.proofs.write.write_text.Goals as goal
 
 pub returns-then-out-size : goal.returns-then-out-size

@@ -1,10 +1,7 @@
 -- `write::write_units` meets its contract. The invariant: what is still to come goes behind what stands in front. Assumes nothing.
-use Prim.Native.Nat.{◌-◌}
 use native.Mathlib.Omega.{arith}
-use lib.ListN.{length}
 use Rattle.wire_write.proofs.FillingLaws.{length_now, room_left}
-use Rattle.text_write.proofs.PutLaws.{UnitsToGo, units_start, units_done, unit_within, unit_room, units_step}
-use borrow.Author.Rules.{rules}
+use Rattle.text_write.proofs.PutLaws.{units_start, units_done, unit_within, unit_room, units_step}
 use Rattle.text_write.proofs.write.write_units.Goals as goal
 
 pub loop-byte-init : goal.loop-byte-init

@@ -1,3 +1,4 @@
+-- What `write::write_units` keeps true in its loop. Assumes nothing.
 use Rattle.text_write.proofs.PutLaws.{UnitsToGo}
 use Rattle.text_write.proofs.write.write_units.Given as goal
 

@@ -100,11 +100,12 @@ returns-in-Null c =
     let a = c.args in
     let head = c.write_head-at in
     elim c.in-Null.is [
-      inl e ↦
+      | inl e ↦
           let null = kind_null a.kind _ c.kind_of.ensures e in
           null_puts a.area.now a.id a.kind a.aggregate a.bits a.length a.out.now c.requires.1 c.letter.result
           c.letter.ensures head.new.out head.result head.ensures (omega (arith, null))
-    | inr e ↦
+      | inr e ↦
           absurd (true≢false
           (sym (good_known (length a.area.now) a.id a.kind a.aggregate a.bits a.length c.requires.0)
-          ∙ (kind_unknown a.kind _ c.kind_of.ensures e).0)) ]
+          ∙ (kind_unknown a.kind _ c.kind_of.ensures e).0))
+    ]

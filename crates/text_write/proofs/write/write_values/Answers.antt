@@ -1,9 +1,8 @@
 -- `write::write_values` meets its contract. The invariant: what is still to come goes behind what stands in front. Assumes nothing.
 use native.Mathlib.Nat.{sub-zero}
 use native.Mathlib.Omega.{arith}
-use Rattle.wire_write.proofs.FillingLaws.{begins, length_now, room_left}
-use Rattle.text_write.proofs.PutLaws.{ValuesToGo, values_done, entry_within, entry_room, separator_within, separator_length, values_step}
-use borrow.Author.Rules.{rules}
+use Rattle.wire_write.proofs.FillingLaws.{begins, length_now}
+use Rattle.text_write.proofs.PutLaws.{values_done, entry_within, entry_room, separator_within, separator_length, values_step}
 use Rattle.text_write.proofs.write.write_values.Goals as goal
 
 pub loop-n-init : goal.loop-n-init

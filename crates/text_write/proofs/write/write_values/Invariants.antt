@@ -1,3 +1,4 @@
+-- What `write::write_values` keeps true in its loop. Assumes nothing.
 use Rattle.std.proofs.Common.{◌-◌}
 use Rattle.text_write.proofs.PutLaws.{ValuesToGo}
 use Rattle.text_write.proofs.write.write_values.Given as goal

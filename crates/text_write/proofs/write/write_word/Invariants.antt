@@ -1,3 +1,4 @@
+-- What `write::write_word` keeps true in its loop. Assumes nothing.
 use Rattle.text_form.specs.Form.{hexes}
 use Rattle.numerals.proofs.SpelledLaws.{Storing}
 use Rattle.text_write.proofs.write.write_word.Given as goal
