@@ -3,34 +3,26 @@
 #![tactic(auto)]
 
 ghost use Rattle.words.specs.Paper.{Tells};
-ghost use Rattle.text_walk.specs.Paper.{text_paper, walked_paper};
+ghost use Rattle.text_walk.specs.Paper.{walked_paper};
 ghost use Rattle.face_text.specs.Statement.{MeasuresText, WritesRowsetText, ReadsRowsetText};
 
 use text_walk::error::TextError;
 use text_walk::walk::Walked;
-use words::outcome::{Outcome, refusal, taken};
-
-// A refusal as the documents' number and values.
-fn text_outcome(error: TextError) -> Outcome
-    ensures { Tells (text_paper error) result }
-{
-    match error {
-        TextError::BadText { place } => refusal(19, 0, place as u64, 0, 0),
-        TextError::Limit(limit) => wire::error::outcome(limit),
-    }
-}
+use words::outcome::{Outcome, taken};
 
 // What `read_text` answered, in words.
-fn walked_outcome(answer: Walked) -> Outcome
+fn walked_outcome(answer: Result<Walked, TextError>) -> Outcome
     ensures { Tells (walked_paper answer) result }
 {
     match answer {
-        Walked::Counted {
-            rows,
-            values,
-            bytes,
-        } => { taken(bytes as u64, rows as u64, values as u64, 0) }
-        Walked::Stopped(refusal) => text_outcome(refusal),
+        Ok(
+            Walked {
+                rows,
+                values,
+                bytes,
+            },
+        ) => taken(bytes as u64, rows as u64, values as u64, 0),
+        Err(error) => Outcome::from(error),
     }
 }
 

@@ -1,9 +1,9 @@
 -- Tables that are filled from rows: they hold these rows, and where the rows keep the limits, the rowset writer's checks pass.
 -- Assumes nothing.
 use mathlib.Core.Path.{◌≡◌, refl, sym, ◌∙◌, ap}
-use mathlib.Core.Bool.{Bool, true, false, not, ◌&&◌, ◌||◌}
+use mathlib.Core.Bool.{Bool, true, false, not, ◌&&◌}
 use mathlib.Core.List.{List, [], ◌∷◌, ◌++◌, append_assoc, append-nil}
-use Prim.Native.Nat.{ℕ, zero, suc, ◌+◌, ◌*◌, ◌/◌, ◌%◌, ◌^◌, ◌<◌, ◌≤◌}
+use Prim.Native.Nat.{ℕ, zero, suc, ◌+◌, ◌*◌, ◌/◌, ◌<◌, ◌≤◌}
 use native.Mathlib.Nat.{add-zero}
 use native.Mathlib.Omega.{arith}
 use lib.Dec.{ltb, eqb}
@@ -11,21 +11,20 @@ use lib.ListN.{length, get_or, take, drop, length-append}
 use lib.Seq.{get_or-drop, drop-drop, drop-append_seam, take_at}
 use borrow.Author.Tests.{le-ltb, eq-eqb, ne_eqb, ltb-true, eqb-true}
 use Rattle.words.specs.Answer.{Answer}
-use Rattle.words.specs.Buffer.{stretch}
-use Rattle.words.specs.Decide.{pick, decide}
+use Rattle.words.specs.Decide.{decide}
 use Rattle.words.specs.Word.{bytes_of}
 use Rattle.words.proofs.DecideLaws.{first_all}
 use Rattle.words.proofs.WordLaws.{length_bytes_of}
-use Rattle.wire.specs.Layout.{null_mark, null_type, boolean, known, scalar, blob, padded, payload, entry_words, values_in, max_rows, max_values, max_length, max_size}
-use Rattle.wire.specs.Content.{Content, nothing, word, bytes, Cell, Row, null, values, content_in, cell_in, cells_in, row_in, rows_from, rows_in, cell_bytes, cells_bytes, row_bytes, rows_bytes, bytes_of_rows}
+use Rattle.wire.specs.Layout.{null_mark, boolean, known, scalar, blob, payload, entry_words, max_values, max_length, max_size}
+use Rattle.wire.specs.Content.{Content, nothing, word, bytes, Cell, Row, null, values, content_in, cell_in, cells_in, rows_from, rows_in, cell_bytes, cells_bytes, row_bytes, rows_bytes, bytes_of_rows}
 use Rattle.wire.proofs.TypeLaws.{scalar_low, blob_low, known_scalar, known_blob, payload_none, payload_scalar, payload_blob}
-use Rattle.wire_check.specs.Writing.{type_in, length_in, entries_in, total, bad, bad_entry, first_bad, size_of, value_size, values_size, row_size, value_order, count_order, check_lines}
+use Rattle.wire_check.specs.Writing.{type_in, length_in, entries_in, total, bad, bad_entry, first_bad, value_size, values_size, value_order, count_order, check_lines}
 use Rattle.wire_check.specs.Stages.{fit_values, fit_row, fit_rows, fitting}
 use Rattle.wire_check.proofs.TableLaws.{tables_pass}
 use Rattle.wire_check.proofs.LinesLaws.{check_lines_lem}
-use Rattle.text_form.specs.Form.{FitsContent, FitsCell, FitsCells, FitsRow, FitsRows}
+use Rattle.text_form.specs.Form.{FitsContent, FitsCell, FitsCells, FitsRows}
 use Rattle.text_form.proofs.TextLaws.{both}
-use Rattle.text_steps.specs.Tables.{blob_of, blobs, cells_of, all_cells, row_word, fourth_word, fifth_word, entries_from, row_table, value_table, area_bytes}
+use Rattle.text_steps.specs.Tables.{blob_of, blobs, all_cells, fourth_word, fifth_word, entries_from, row_table, value_table, area_bytes}
 use Rattle.text_steps.proofs.SizeLaws.{null_cell, word_cell, blob_cell, row_size_lem, null_size, blobs_join}
 use Rattle.text_read.proofs.LineLaws.{entries_join, length_entries}
 use Rattle.text_read.proofs.TextLaws.{length_row_table, length_value_table}

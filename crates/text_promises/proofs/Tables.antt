@@ -1,23 +1,23 @@
 -- The rows of tables that can be written have a text. Assumes nothing.
 use mathlib.Core.Path.{◌≡◌, refl, sym, ◌∙◌, ap}
 use mathlib.Core.Bool.{Bool, true, false, not, ◌&&◌, ◌||◌}
-use mathlib.Core.List.{List, [], ◌∷◌, ◌++◌}
-use mathlib.Core.Logic.{◌⊎◌, inl, inr, ⊎_elim}
+use mathlib.Core.List.{List, [], ◌∷◌}
+use mathlib.Core.Logic.{⊎_elim}
 use Prim.Native.Nat.{ℕ, zero, suc, ◌+◌, ◌*◌, ◌/◌, ◌%◌, ◌^◌, ◌<◌, ◌≤◌}
 use native.Mathlib.Omega.{arith}
 use lib.Dec.{ltb, eqb}
 use lib.ListN.{length, get_or, take, drop, length-take, get_or-eq_default}
 use lib.Seq.{get_or-take, get_or-drop}
 use native.Mathlib.Nat.{min-le_left}
-use borrow.Author.Tests.{eqb-true, eqb-false, ltb-false, not-false, eq-eqb}
+use borrow.Author.Tests.{eqb-true, ltb-false, not-false, eq-eqb}
 use Rattle.words.specs.Word.{Bytes}
 use Rattle.words.specs.Buffer.{stretch}
-use Rattle.words.specs.Answer.{Answer, accepted, refuse}
+use Rattle.words.specs.Answer.{accepted}
 use Rattle.words.specs.Decide.{decide, pick}
 use Rattle.words.proofs.DecideLaws.{pick_case, decide_append, le_or_gt}
 use Rattle.wire.specs.Layout.{null_mark, null_type, boolean, known, scalar, blob, entry_words, values_in, max_rows}
-use Rattle.wire.specs.Content.{Content, nothing, word, bytes, Cell, Row, null, values, content_in, cell_in, cells_in, row_in, rows_from, rows_in}
-use Rattle.wire_check.specs.Writing.{total, bad, bad_entry, first_bad, entries_in, bad_table_lines, too_many_rows, rows_limits, limit_lines, check_lines}
+use Rattle.wire.specs.Content.{nothing, word, bytes, content_in, cells_in, row_in, rows_from, rows_in}
+use Rattle.wire_check.specs.Writing.{total, bad, first_bad, bad_table_lines, limit_lines, check_lines}
 use Rattle.wire_check.specs.Stages.{Good, Sound}
 use Rattle.wire_check.proofs.TableLaws.{none_wrong, tables_pass}
 use Rattle.text_form.specs.Form.{FitsContent, FitsCell, FitsCells, FitsRow, FitsRows}

@@ -1,12 +1,12 @@
 -- The promises of a rowset's text. Assumes nothing.
 use mathlib.Core.Path.{◌≡◌, refl, sym, ◌∙◌, ap}
-use mathlib.Core.Bool.{Bool, true, false, not, ◌&&◌}
+use mathlib.Core.Bool.{Bool, true, false}
 use mathlib.Core.List.{List, [], ◌∷◌, ◌++◌}
-use mathlib.Core.Logic.{◌⊎◌, inl, inr, ⊎_elim}
-use Prim.Native.Nat.{ℕ, zero, suc, ◌+◌, ◌*◌, ◌/◌, ◌%◌, ◌^◌, ◌<◌, ◌≤◌}
+use mathlib.Core.Logic.{◌⊎◌, inl, inr}
+use Prim.Native.Nat.{ℕ, ◌+◌, ◌*◌, ◌/◌, ◌≤◌}
 use native.Mathlib.Omega.{arith}
 use borrow.Author.Tests.{le-ltb, ltb-false, eqb-true}
-use lib.ListN.{length, get_or, take, drop, length-append}
+use lib.ListN.{length, take, drop, length-append}
 use lib.Seq.{take_at}
 use Rattle.words.specs.Answer.{Answer, accepted, more, refused, refuse, afterwards}
 use Rattle.words.specs.Buffer.{over}
@@ -26,14 +26,11 @@ use Rattle.wire.specs.declared.error.WireError.{WireError}
 use Rattle.wire.specs.declared.error.WireError.TheVariants.{Truncated, TooManyRows, TooManyValues, ValueTooLong, RowsetTooLarge, UnknownValueType, TrailingBytes, NoRoom, BadTable}
 use Rattle.wire.proofs.PaperLaws.{paper_injective, paper_never_accepted}
 use Rattle.wire_check.specs.Writing.{total, check_lines, rowset_size, measuring, writing}
-use Rattle.wire_check.specs.Stages.{Sound}
 use Rattle.wire_check.proofs.TableLaws.{by_test}
 use Rattle.wire_check.specs.Paper.{paper_measured}
-use Rattle.wire_check.specs.declared.size.Measured.{Measured}
-use Rattle.wire_check.specs.declared.size.Measured.TheVariants as measured
+use Rattle.std.specs.declared.result.Result.{Result}
+use Rattle.std.specs.declared.result.Result.TheVariants.{Ok, Err}
 use Rattle.wire_write.specs.Paper.{paper_encoded}
-use Rattle.wire_write.specs.declared.write.Encoded.{Encoded}
-use Rattle.wire_write.specs.declared.write.Encoded.TheVariants.{Written, Refused}
 use Rattle.wire_write.proofs.Unique.{encoded_one}
 use Rattle.text_form.specs.Form.{FitsRows, IsText, Accepted, text}
 use Rattle.text_form.proofs.Exactly.{text_injective, text_read}
@@ -43,16 +40,12 @@ use Rattle.text_write.specs.Statement.{writing_text, WritesText}
 use Rattle.text_steps.specs.Tables.{cells_of, all_cells, row_word, row_table, value_table, area_bytes}
 use Rattle.text_walk.specs.Paper.{text_paper, walked_paper}
 use Rattle.text_walk.specs.Statement.{walking, ending_as, counts, counting}
-use Rattle.text_walk.specs.declared.error.TextError.{TextError}
-use Rattle.text_walk.specs.declared.error.TextError.TheVariants.{BadText, Limit}
-use Rattle.text_walk.specs.declared.walk.Walked.{Walked}
-use Rattle.text_walk.specs.declared.walk.Walked.TheVariants.{Counted, Stopped}
 use Rattle.text_walk.proofs.Unique.{walked_of, walked_back}
 use Rattle.text_read.specs.Statement.{rows_read, roomed, reading_text, ReadsText}
 use Rattle.text_read.proofs.AnswerLaws.{text_not_taken}
 use Rattle.text_read.proofs.TextLaws.{length_row_table, length_value_table}
-use Rattle.text_promises.specs.Texts.{WithinLimits, HasRoom, CountAcceptsExactly, CountPlace, TextAcceptsExactly, TextPlace, TextRefusalKeeps, TextAndBack, TablesAndBack, WrittenAndBack}
-use Rattle.text_promises.specs.Texts.{TextOnce, SizesRefuseAlike, NotForRoom, WritersRefuseAlike, Words, WrittenIsText}
+use Rattle.text_promises.specs.Texts.{counted, WithinLimits, HasRoom, CountAcceptsExactly, CountPlace, TextAcceptsExactly, TextPlace, TextRefusalKeeps, TextAndBack, TablesAndBack, WrittenAndBack}
+use Rattle.text_promises.specs.Texts.{TextOnce, SizesRefuseAlike, NotForRoom, WritersRefuseAlike, WrittenIsText}
 use Rattle.text_form.specs.Walk.{start}
 use Rattle.text_promises.proofs.Refusals.{passes_or_not, passes, checks_refuse, silent_where_accepted}
 use Rattle.text_promises.proofs.Tables.{sound_tables, tables_fit}
@@ -130,7 +123,7 @@ count_accepts_exactly s r means = (
       let found = is_read s counts count_other k (n ∷ m ∷ []) (sym (ap walked_paper e) ∙ means) in
       let same : accepted k (n ∷ m ∷ []) ≡ accepted (length (area_bytes found.0)) (length found.0 ∷ length (all_cells found.0) ∷ []) = found.2 in
       (found.0, within_text s found.0 found.1, read_within s found.0 found.1, cc, cc, cc)),
-  (λ content is within. means_one walked_paper walked_of walked_back (counting s) r (Counted (length content) (length (all_cells content)) (length (area_bytes content))) means (sym (ap (ending_as counts) (is_taken_lem s content is within)))),
+  (λ content is within. means_one walked_paper walked_of walked_back (counting s) r (counted (length content) (length (all_cells content)) (length (area_bytes content))) means (sym (ap (ending_as counts) (is_taken_lem s content is within)))),
   (λ place e good. (is_placed s counts count_other place (sym (ap walked_paper e) ∙ means)).refused good),
 )
 
@@ -175,7 +168,7 @@ record Filled (s rows values area : List ℕ) (n m k : ℕ) (rows' values' area'
   values_hold : values' ≡ over (value_table content) values
   area_holds : area' ≡ over (area_bytes content) area
 
-filled : (s rows values area : List ℕ) (n m k : ℕ) (rows' values' area' : List ℕ) → ReadsText s rows values area (Counted n m k) rows' values' area' → Filled s rows values area n m k rows' values' area'
+filled : (s rows values area : List ℕ) (n m k : ℕ) (rows' values' area' : List ℕ) → ReadsText s rows values area (counted n m k) rows' values' area' → Filled s rows values area n m k rows' values' area'
 unfolding reading_text
 filled s rows values area n m k rows' values' area' reads =
     let found = is_read s (roomed (length rows) (length values / entry_words) (length area)) (room_other rows values area) k (n ∷ m ∷ []) reads.means in
@@ -203,7 +196,7 @@ text_accepts_exactly s rows values area r rows' values' area' reads = (
       let room = room_told rows values area found.0 k (n ∷ m ∷ []) found.2 in
       let same : accepted k (n ∷ m ∷ []) ≡ accepted (length (area_bytes found.0)) (length found.0 ∷ length (all_cells found.0) ∷ []) = room.1 in
       (found.0, within_text s found.0 found.1, read_within s found.0 found.1, room.0, cc, cc, cc)),
-  (λ content is within room. means_one walked_paper walked_of walked_back _ r (Counted (length content) (length (all_cells content)) (length (area_bytes content))) reads.means
+  (λ content is within room. means_one walked_paper walked_of walked_back _ r (counted (length content) (length (all_cells content)) (length (area_bytes content))) reads.means
       (sym (ap (ending_as (roomed (length rows) (length values / entry_words) (length area))) (is_taken_lem s content is within) ∙ room_free rows values area content room))),
   (λ place e good. (is_placed s (roomed (length rows) (length values / entry_words) (length area)) (room_other rows values area) place (sym (ap walked_paper e) ∙ reads.means)).refused good),
 )
@@ -228,13 +221,13 @@ text_once s rows rows' is is' = text_injective rows rows' is.0 is'.0 (sym is.1 �
 
 -- Refusals: the same lines decide before what follows them
 
-measured_refused : (r : Measured) (refusal : WireError) → paper_measured r ≡ paper refusal → r ≡ measured.Refused refusal
-measured_refused (measured.Size n) refusal e = absurd (paper_never_accepted refusal n [] (sym e))
-measured_refused (measured.Refused other) refusal e = ap measured.Refused (paper_injective other refusal e)
+measured_refused : (r : Result ℕ WireError) (refusal : WireError) → paper_measured r ≡ paper refusal → r ≡ Err refusal
+measured_refused (Ok n) refusal e = absurd (paper_never_accepted refusal n [] (sym e))
+measured_refused (Err other) refusal e = ap Err (paper_injective other refusal e)
 
-encoded_refused : (r : Encoded) (refusal : WireError) → paper_encoded r ≡ paper refusal → r ≡ Refused refusal
-encoded_refused (Written n) refusal e = absurd (paper_never_accepted refusal n [] (sym e))
-encoded_refused (Refused other) refusal e = ap Refused (paper_injective other refusal e)
+encoded_refused : (r : Result ℕ WireError) (refusal : WireError) → paper_encoded r ≡ paper refusal → r ≡ Err refusal
+encoded_refused (Ok n) refusal e = absurd (paper_never_accepted refusal n [] (sym e))
+encoded_refused (Err other) refusal e = ap Err (paper_injective other refusal e)
 
 -- where a list refuses by this, with something accepted behind it, it refuses so whatever stands behind it
 module _ (lines : List (Line Answer)) (refusal : WireError) where
@@ -312,7 +305,7 @@ writers_refuse_alike area rows values before after before₀ after₀ r r₀ wri
 
 -- What was written
 
-module _ (area rows values before after : List ℕ) (n : ℕ) (writes : WritesText area rows values before (Written n) after) where
+module _ (area rows values before after : List ℕ) (n : ℕ) (writes : WritesText area rows values before (Ok n) after) where
   answer_is : writing_text area rows values (length before) ≡ accepted n []
   answer_is = sym writes.0
 
@@ -370,7 +363,7 @@ text_and_back s rows values area n m k rows' values' area' reads before r after 
     rw (rows_front s rows values area n m k rows' values' area' f, values_front s rows values area n m k rows' values' area' f, area_front s rows values area n m k rows' values' area' f) (tables_written f.content is.0 within) in
     let answer : writing_text (take k area') (take n rows') (take (entry_words * m) values') (length before) ≡ accepted (length s) [] =
     decide_append (check_lines (take k area') (take n rows') (take (entry_words * m) values')) _ _ ∙ passes_all _ ∙ rw (same, le-ltb (length before) (length s) room) in (
-      encoded_one r (Written (length s)) (writes.0 ∙ answer),
+      encoded_one r (Ok (length s)) (writes.0 ∙ answer),
       writes.1 ∙ ap (λ (a : Answer). afterwards a (tables_text (take k area') (take n rows') (take (entry_words * m) values')) before) answer ∙ ap (λ (t : List ℕ). over t before) same,
     )
 
@@ -405,14 +398,14 @@ tables_and_back area rows values before after n all-bytes All-words writes rows�
     let count : length content ≡ length rows = sym (length_row_table content) ∙ ap length (row_words area values rows 0) in
     let all : length (all_cells content) ≡ total rows = all_values area values rows 0 in
     let entries : length (all_cells content) ≡ length values / entry_words = omega (arith, all, sound.whole) in
-    let answer : r ≡ Counted (length content) (length (all_cells content)) k = (text_accepts_exactly (take n after) rows₀ values₀ area₀ r rows' values' area' reads).1 content is within room in
+    let answer : r ≡ counted (length content) (length (all_cells content)) k = (text_accepts_exactly (take n after) rows₀ values₀ area₀ r rows' values' area' reads).1 content is within room in
     let f = filled (take n after) rows₀ values₀ area₀ (length content) (length (all_cells content)) k rows' values' area' (rw answer at reads) in
     let same : f.content ≡ content = (let both_read : ◌≡◌ {A = Ending (List Row) (Unit {0} ⊎ Answer)} (read f.content) (read content) = sym f.is_walked ∙ is_taken_lem (take n after) content is within in cc) in
     let words : take (length rows) rows' ≡ rows =
     ap (λ (j : ℕ). take j rows') (sym count) ∙ rows_front (take n after) rows₀ values₀ area₀ _ _ _ rows' values' area' f ∙ ap row_table same ∙ row_words area values rows 0 in
     let holds = held (take n after) rows₀ values₀ area₀ _ _ _ rows' values' area' f (rw same is.0) (rw same within) in
     let width : entry_words * length (all_cells content) ≡ length values = omega (arith, all, sound.whole) in (
-      answer ∙ ap (λ (j : ℕ). Counted j (length (all_cells content)) k) count ∙ ap (λ (j : ℕ). Counted (length rows) j k) entries,
+      answer ∙ ap (λ (j : ℕ). counted j (length (all_cells content)) k) count ∙ ap (λ (j : ℕ). counted (length rows) j k) entries,
       words,
       rw (← count, ← width) (holds ∙ same),
     )
@@ -429,4 +422,4 @@ written_and_back area rows values before after n all-bytes All-words writes rows
     ∙ count_is area rows values before after n writes in
     let back =
     text_and_back s rows₀ values₀ area₀ (length rows) (length values / entry_words) k rows' values' area' (rw read-so.0 at reads) before₂ r₂ after₂ (rw width writes₂) (omega (arith, long)) in
-    (back.0 ∙ ap Written long, ap (take n) back.1 ∙ front s before₂ n (sym long))
+    (back.0 ∙ ap Ok long, ap (take n) back.1 ∙ front s before₂ n (sym long))

@@ -1,9 +1,9 @@
 -- The limits asked byte by byte are those of the rows: a reading meets none exactly where the rows read keep them all.
 -- Assumes nothing.
 use mathlib.Core.Path.{◌≡◌, refl, sym, ◌∙◌, ap}
-use mathlib.Core.Bool.{Bool, true, false, not, ◌&&◌, ◌||◌}
+use mathlib.Core.Bool.{Bool, true, false, ◌&&◌, ◌||◌}
 use mathlib.Core.List.{List, [], ◌∷◌, ◌++◌}
-use mathlib.Core.Logic.{◌⊎◌, inl, inr}
+use mathlib.Core.Logic.{inl, inr}
 use Prim.Native.Nat.{ℕ, zero, suc, ◌+◌, ◌-◌, ◌*◌, ◌≤◌}
 use native.Mathlib.Omega.{arith}
 use borrow.Author.Tests.{le-ltb, ltb-false}
@@ -11,14 +11,14 @@ use lib.ListN.{length, length-append}
 use Rattle.words.specs.Answer.{Answer, refuse}
 use Rattle.words.specs.Decide.{pick, ◌<?◌, ◌=?◌}
 use Rattle.words.proofs.DecideLaws.{pick_case}
-use Rattle.places.specs.Machine.{Move, on, off, Machine, Ending, read, stopped, behind, run}
+use Rattle.places.specs.Machine.{Move, on, off, read, behind, run}
 use Rattle.places.proofs.Ways.{After}
 use Rattle.places.proofs.MachineLaws.{read_not_stopped}
 use Rattle.wire.specs.Layout.{null_type, scalar, blob, max_rows, max_values, max_length, max_size}
 use Rattle.wire.specs.Content.{Content, nothing, word, bytes, Cell, Row, null, values, cell_bytes, cells_bytes, row_bytes, bytes_of_rows}
 use Rattle.text_form.specs.Form.{escaped}
 use Rattle.text_form.specs.Walk.{Phase, fresh, number, letter, digits, full, percent, second, State, hash, at, start, Go, cell_of, type_of, small_value, capital_value, fits_word, fits_high, onward, step, close, walk}
-use Rattle.text_form.specs.Limits.{Ask, asking, beginning, size_with, further, over, asked, passed, walk_within}
+use Rattle.text_form.specs.Limits.{Ask, asking, beginning, size_with, over, asked, walk_within}
 use Rattle.text_steps.specs.Tables.{blob_of, cells_of}
 use Rattle.text_steps.proofs.SizeLaws.{size_row, size_cell, size_with_lem, size_begun, null_size, empty_size, size_none}
 use Rattle.text_steps.proofs.AheadLaws.{begun, row_begun}

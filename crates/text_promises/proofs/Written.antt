@@ -1,24 +1,23 @@
 -- The rows of tables that the rowset writer's checks let pass keep the limits. Assumes nothing.
 use mathlib.Core.Path.{◌≡◌, refl, sym, ◌∙◌, ap}
-use mathlib.Core.Bool.{Bool, true, false, not, ◌&&◌, ◌||◌}
-use mathlib.Core.List.{List, [], ◌∷◌, ◌++◌}
-use Prim.Native.Nat.{ℕ, zero, suc, ◌+◌, ◌*◌, ◌/◌, ◌%◌, ◌<◌, ◌≤◌}
-use native.Mathlib.Nat.{min-le_left}
+use mathlib.Core.Bool.{true, false, ◌&&◌}
+use mathlib.Core.List.{List, [], ◌∷◌}
+use Prim.Native.Nat.{ℕ, zero, suc, ◌+◌, ◌*◌, ◌/◌, ◌%◌, ◌≤◌}
 use native.Mathlib.Omega.{arith}
 use lib.Dec.{ltb, eqb}
-use lib.ListN.{length, get_or, take, drop, length-append, length-drop}
+use lib.ListN.{length, drop, length-append, length-drop}
 use lib.Seq.{length-take-le}
 use borrow.Author.Tests.{ltb-false, eqb-true, not-false}
 use Rattle.words.specs.Answer.{Answer, accepted}
 use Rattle.words.specs.Buffer.{stretch}
-use Rattle.words.specs.Decide.{pick, decide}
+use Rattle.words.specs.Decide.{decide}
 use Rattle.words.specs.Word.{bytes_of}
 use Rattle.words.proofs.DecideLaws.{decide_append}
 use Rattle.words.proofs.WordLaws.{length_bytes_of}
 use Rattle.wire.specs.Layout.{null_mark, scalar, blob, padded, payload, entry_words, values_in, max_rows, max_values, max_length, max_size}
-use Rattle.wire.specs.Content.{Content, nothing, word, bytes, Cell, Row, null, values, content_in, cell_in, cells_in, row_in, rows_from, rows_in, cell_bytes, cells_bytes, row_bytes, rows_bytes, bytes_of_rows}
-use Rattle.wire_check.specs.Writing.{id_in, type_in, aggregate_in, bits_in, length_in, total, bad, bad_entry, first_bad, value_size, values_size, value_order, count_order, bad_table_lines, limit_lines, check_lines}
-use Rattle.wire_check.specs.Stages.{Good, Sound, fit_values, fit_row, fit_rows, fitting}
+use Rattle.wire.specs.Content.{nothing, word, bytes, content_in, cell_in, cells_in, row_in, rows_from, rows_in, cell_bytes, cells_bytes, row_bytes, rows_bytes, bytes_of_rows}
+use Rattle.wire_check.specs.Writing.{id_in, type_in, aggregate_in, bits_in, length_in, total, bad_entry, first_bad, value_size, values_size, value_order, count_order, bad_table_lines, limit_lines, check_lines}
+use Rattle.wire_check.specs.Stages.{Good, fit_values, fit_row, fit_rows, fitting}
 use Rattle.wire_check.proofs.TableLaws.{by_test, none_wrong, tables_pass}
 use Rattle.wire_check.proofs.LinesLaws.{check_lines_lem}
 use Rattle.text_steps.specs.Tables.{blob_of, cells_of}

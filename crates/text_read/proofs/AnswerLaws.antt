@@ -25,7 +25,8 @@ use Rattle.text_walk.specs.Statement.{walking, ending_as, counts, counting, Coun
 use Rattle.text_walk.specs.declared.error.TextError.{TextError}
 use Rattle.text_walk.specs.declared.error.TextError.TheVariants.{BadText, Limit}
 use Rattle.text_walk.specs.declared.walk.Walked.{Walked}
-use Rattle.text_walk.specs.declared.walk.Walked.TheVariants.{Counted, Stopped}
+use Rattle.std.specs.declared.result.Result.{Result}
+use Rattle.std.specs.declared.result.Result.TheVariants.{Ok, Err}
 use Rattle.text_read.specs.Statement.{rows_read, roomed, reading_text, ReadsText}
 use Rattle.text_read.specs.Stages.{HasText, FillsText}
 use Rattle.text_steps.proofs.LimitNumbers.{ByLimit, limit_number}
@@ -45,7 +46,7 @@ not_limit : (n : ℕ) (fields : List ℕ) (refusal : Answer) → accepted n fiel
 not_limit n fields refusal e h = rw (← e) at h
 
 -- what was counted is read
-pub counted_read : (s : List ℕ) (a b n : ℕ) → Counts s (Counted a b n)
+pub counted_read : (s : List ℕ) (a b n : ℕ) → Counts s (Ok record { rows = a; values = b; bytes = n })
     → (final : List Row) × (walking s ≡ read final) × (a ≡ length final) × (b ≡ length (all_cells final)) × (n ≡ length (area_bytes final))
 unfolding counting
 counted_read s a b n e = each (walking s) refl e
@@ -62,19 +63,19 @@ stored_over ws table h = fitted_sets ws table h ∙ fitted_fits ws table h
 
 module _ (s rows values area : List ℕ) where
   -- a refusal leaves all as it was
-  refuses : (e : TextError) → text_paper e ≡ reading_text s (length rows) (length values / entry_words) (length area) → ReadsText s rows values area (Stopped e) rows values area
+  refuses : (e : TextError) → text_paper e ≡ reading_text s (length rows) (length values / entry_words) (length area) → ReadsText s rows values area (Err e) rows values area
   refuses e means = record { means = means; rows_hold = kept _ rows; values_hold = kept _ values; area_holds = kept _ area }
     where
       kept : (ws xs : List ℕ) → Holds (reading_text s (length rows) (length values / entry_words) (length area)) ws xs xs
       kept ws xs = sym (not_taken_keeps (text_paper e) ws xs (text_not_taken e)) ∙ ap (λ (a : Answer). afterwards a ws xs) means
 
-  pub read_refused : (r : Walked) → Counts s r → (e : TextError) → r ≡ Stopped e → ReadsText s rows values area (Stopped e) rows values area
+  pub read_refused : (r : Result Walked TextError) → Counts s r → (e : TextError) → r ≡ Err e → ReadsText s rows values area (Err e) rows values area
   unfolding reading_text counting
   read_refused r told e is =
-      let stops : Counts s (Stopped e) = rw is at told in
+      let stops : Counts s (Err e) = rw is at told in
       refuses e (same_refusal (walking s) (text_paper e) (text_not_taken e) stops (roomed (length rows) (length values / entry_words) (length area)))
 
-  module _ (r : Walked) (told : Counts s r) (a b n : ℕ) (is : r ≡ Counted a b n) where
+  module _ (r : Result Walked TextError) (told : Counts s r) (a b n : ℕ) (is : r ≡ Ok record { rows = a; values = b; bytes = n }) where
     mine : (final : List Row) × (walking s ≡ read final) × (a ≡ length final) × (b ≡ length (all_cells final)) × (n ≡ length (area_bytes final))
     mine = counted_read s a b n (rw is at told)
 
@@ -82,16 +83,16 @@ module _ (s rows values area : List ℕ) where
     unfolding reading_text
     roomed_so = ap (ending_as (roomed (length rows) (length values / entry_words) (length area))) mine.1
 
-    pub no_rows : length rows < a → (w : Walked) → w ≡ Stopped (Limit (NoRoom (record { room = Rows; needed = a; given = length rows }))) → ReadsText s rows values area w rows values area
+    pub no_rows : length rows < a → (w : Result Walked TextError) → w ≡ Err (Limit (NoRoom (record { room = Rows; needed = a; given = length rows }))) → ReadsText s rows values area w rows values area
     no_rows h w e = rw e (refuses _ (sym (roomed_so ∙ rw (← mine.2, lt-ltb (length rows) a h))))
 
     module _ (few : a ≤ length rows) where
-      pub no_values : length values / entry_words < b → (w : Walked) → w ≡ Stopped (Limit (NoRoom (record { room = Values; needed = b; given = length values / entry_words })))
+      pub no_values : length values / entry_words < b → (w : Result Walked TextError) → w ≡ Err (Limit (NoRoom (record { room = Values; needed = b; given = length values / entry_words })))
           → ReadsText s rows values area w rows values area
       no_values h w e = rw e (refuses _ (sym (roomed_so ∙ rw (← mine.2, ← mine.3, le-ltb (length rows) a few, lt-ltb (length values / entry_words) b h))))
 
       module _ (fit : b ≤ length values / entry_words) where
-        pub no_area : length area < n → (w : Walked) → w ≡ Stopped (Limit (NoRoom (record { room = Output; needed = n; given = length area })))
+        pub no_area : length area < n → (w : Result Walked TextError) → w ≡ Err (Limit (NoRoom (record { room = Output; needed = n; given = length area })))
             → ReadsText s rows values area w rows values area
         no_area h w e =
             rw e (refuses _ (sym (roomed_so ∙ rw (← mine.2, ← mine.3, ← mine.4, le-ltb (length rows) a few, le-ltb (length values / entry_words) b fit, lt-ltb (length area) n h))))
@@ -112,7 +113,7 @@ module _ (s rows values area : List ℕ) where
           same_rows : mine.0 ≡ rows_read (walking s)
           same_rows = ap rows_read (sym mine.1)
 
-          pub text_read : (rows' values' area' : List ℕ) → FillsText s rows values area rows' values' area' → ReadsText s rows values area (Counted a b n) rows' values' area'
+          pub text_read : (rows' values' area' : List ℕ) → FillsText s rows values area rows' values' area' → ReadsText s rows values area (Ok record { rows = a; values = b; bytes = n }) rows' values' area'
           text_read rows' values' area' fills =
               let all = fills mine.0 mine.1 in
               record {

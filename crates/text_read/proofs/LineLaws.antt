@@ -12,7 +12,7 @@ use Rattle.words.specs.Answer.{Answer}
 use Rattle.words.specs.Decide.{◌=?◌}
 use Rattle.places.specs.Machine.{on, off, read}
 use Rattle.wire.specs.Layout.{null_mark, entry_words}
-use Rattle.wire.specs.Content.{word, Cell, Row, null, values}
+use Rattle.wire.specs.Content.{Cell, Row, null, values}
 use Rattle.wire.proofs.LayoutLaws.{sets_append}
 use Rattle.text_form.specs.Form.{line_feed, null_sign}
 use Rattle.text_form.specs.Walk.{fresh, number, State, hash, at, Go, step}

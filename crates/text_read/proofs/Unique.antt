@@ -9,11 +9,13 @@ use Rattle.wire.specs.Layout.{entry_words}
 use Rattle.text_steps.specs.Tables.{row_table, value_table, area_bytes}
 use Rattle.text_walk.specs.Paper.{walked_paper}
 use Rattle.text_walk.specs.Statement.{walking}
+use Rattle.std.specs.declared.result.Result.{Result}
+use Rattle.text_walk.specs.declared.error.TextError.{TextError}
 use Rattle.text_walk.specs.declared.walk.Walked.{Walked}
 use Rattle.text_walk.proofs.Unique.{walked_of, walked_back}
 use Rattle.text_read.specs.Statement.{rows_read, reading_text, ReadsText}
 
-pub read_text_unique : (s rows values area : List ℕ) (r r' : Walked) (a a' b b' d d' : List ℕ) → ReadsText s rows values area r a b d → ReadsText s rows values area r' a' b' d'
+pub read_text_unique : (s rows values area : List ℕ) (r r' : Result Walked TextError) (a a' b b' d d' : List ℕ) → ReadsText s rows values area r a b d → ReadsText s rows values area r' a' b' d'
     → (r ≡ r') × (a ≡ a') × (b ≡ b') × (d ≡ d')
 read_text_unique s rows values area r r' a a' b b' d d' p q =
     let answer : Answer = reading_text s (length rows) (length values / entry_words) (length area) in (

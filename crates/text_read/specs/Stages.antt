@@ -1,12 +1,12 @@
 -- What the private stages of the second walk hand on: nobody has to believe it. A stage is for a text whose reading
 -- comes to its end, and says where and in which state that reading goes on, for whatever rows and values were read
 -- before. Assumes nothing.
-use Rattle.std.specs.Prelude.{ℕ, zero, suc, ◌+◌, ◌*◌, ◌≤◌, ◌<◌, Bool, true, ◌≡◌, List, [], ◌∷◌, ◌++◌, length, get_or}
+use Rattle.std.specs.Prelude.{ℕ, zero, suc, ◌+◌, ◌*◌, ◌≤◌, ◌<◌, true, ◌≡◌, List, [], ◌∷◌, ◌++◌, length, get_or}
 use Rattle.std.proofs.lemmas.List.Edits.{sets}
 use Rattle.places.specs.Machine.{read}
 use Rattle.wire.specs.Layout.{entry_words, known}
-use Rattle.wire.specs.Content.{Content, nothing, word, bytes, Cell, Row}
-use Rattle.text_form.specs.Walk.{Phase, fresh, number, letter, digits, full, percent, State, at, cell_of, small_value}
+use Rattle.wire.specs.Content.{Content, word, bytes, Cell, Row}
+use Rattle.text_form.specs.Walk.{Phase, fresh, number, letter, digits, full, percent, at, cell_of, small_value}
 use Rattle.text_steps.specs.Tables.{blob_of, blobs, all_cells, cells_of, row_word, fourth_word, fifth_word, entries_from, row_table, value_table, area_bytes}
 use Rattle.text_walk.specs.Statement.{walking}
 use Rattle.text_steps.specs.Stages.{from, is_digit, opened, Signless, EndsThere, behind_value}

@@ -66,9 +66,8 @@ fn read_id(text: &[u8], start: usize, first: u64) -> Number
     requires { HasNumber text.now start first }
     ensures { ReadsId text.now start first result }
 {
-    let mut at = start;
     let mut id = first;
-    while at < text.len() {
+    for at in start..text.len() {
         let byte = text[at];
         if byte == b':' {
             return Number {
@@ -77,10 +76,9 @@ fn read_id(text: &[u8], start: usize, first: u64) -> Number
             };
         }
         id = id * 10 + (byte - b'0') as u64;
-        at += 1;
     }
     Number {
-        next: at,
+        next: text.len(),
         value: id,
     }
 }
@@ -175,10 +173,7 @@ fn copy_units(text: &[u8], start: usize, area: &mut [u8], first: usize) -> Copie
             at += 3;
             continue;
         }
-        if byte == b'\t' {
-            return Copied { next: at, used };
-        }
-        if byte == b'\n' {
+        if byte == b'\t' || byte == b'\n' {
             return Copied { next: at, used };
         }
         area[used] = byte;
@@ -194,13 +189,7 @@ fn read_payload(text: &[u8], at: usize, kind: u64, area: &mut [u8], used: usize)
     ensures { ReadsContent text.now at kind used area.old area.new result }
 {
     match kind_of(kind) {
-        Kind::Null => Payload {
-            next: at,
-            used,
-            fourth: 0,
-            fifth: 0,
-        },
-        Kind::Unknown => Payload {
+        Kind::Null | Kind::Unknown => Payload {
             next: at,
             used,
             fourth: 0,
@@ -227,7 +216,9 @@ fn read_payload(text: &[u8], at: usize, kind: u64, area: &mut [u8], used: usize)
     }
 }
 
-// A value whose id begins with `first`, and the byte behind it: its entry to the word `k` of the table on.
+// A value whose id begins with `first`, and the byte behind it: its entry to the word `k` of the table on. The tables,
+// the area and how far each is filled are parameters of their own, here and in the two functions below: the clauses say
+// of each slice by its name what it was and what it is.
 fn fill_value(
     text: &[u8],
     at: usize,
@@ -317,24 +308,21 @@ fn fill_line(
     ensures { FillsLine text.now at k used values.old area.old values.new
         area.new result }
 {
-    let byte = text[at];
-    if byte == b'\n' {
-        return Line {
+    match text[at] {
+        b'\n' => Line {
             next: at + 1,
             k,
             used,
             word: 0,
-        };
-    }
-    if byte == b'#' {
-        return Line {
+        },
+        b'#' => Line {
             next: at + 2,
             k,
             used,
             word: NULL_ROW_MARKER,
-        };
+        },
+        _ => fill_values(text, at, values, k, area, used),
     }
-    fill_values(text, at, values, k, area, used)
 }
 
 // Both tables and the area, from their fronts.

@@ -11,44 +11,44 @@ use wire::layout::ENTRY_WORDS;
 use words::outcome::{NoRoom, Room};
 
 // 17: what ran short.
-fn short(room: Room, needed: usize, given: usize) -> Walked
-    ensures { result ≡ Walked.Stopped
-        (TextError.Limit (WireError.NoRoom (record { room = room; needed = needed; given = given }))) }
+fn short(room: Room, needed: usize, given: usize) -> TextError
+    ensures { result ≡ TextError.Limit (WireError.NoRoom (record { room = room; needed = needed; given = given })) }
 {
-    Walked::Stopped(TextError::Limit(WireError::NoRoom(NoRoom {
+    TextError::Limit(WireError::NoRoom(NoRoom {
         room,
         needed: needed as u64,
         given: given as u64,
-    })))
+    }))
 }
 
 // Reads a text into the two tables and the area; a refusal leaves them as they were.
-pub fn read_text(text: &[u8], rows: &mut [u64], values: &mut [u64], area: &mut [u8]) -> Walked
+pub fn read_text(
+    text: &[u8],
+    rows: &mut [u64],
+    values: &mut [u64],
+    area: &mut [u8],
+) -> Result<Walked, TextError>
     ensures { ReadsText text.now rows.old values.old area.old result
         rows.new values.new area.new }
 {
-    match count_text(text) {
-        Walked::Stopped(refusal) => Walked::Stopped(refusal),
-        Walked::Counted {
-            rows: count,
-            values: entries,
-            bytes,
-        } => {
-            if rows.len() < count {
-                return short(Room::Rows, count, rows.len());
-            }
-            if values.len() / ENTRY_WORDS < entries {
-                return short(Room::Values, entries, values.len() / ENTRY_WORDS);
-            }
-            if area.len() < bytes {
-                return short(Room::Output, bytes, area.len());
-            }
-            fill_text(text, rows, values, area);
-            Walked::Counted {
-                rows: count,
-                values: entries,
-                bytes,
-            }
-        }
+    let Walked {
+        rows: count,
+        values: entries,
+        bytes,
+    } = count_text(text)?;
+    if rows.len() < count {
+        return Err(short(Room::Rows, count, rows.len()));
     }
+    if values.len() / ENTRY_WORDS < entries {
+        return Err(short(Room::Values, entries, values.len() / ENTRY_WORDS));
+    }
+    if area.len() < bytes {
+        return Err(short(Room::Output, bytes, area.len()));
+    }
+    fill_text(text, rows, values, area);
+    Ok(Walked {
+        rows: count,
+        values: entries,
+        bytes,
+    })
 }

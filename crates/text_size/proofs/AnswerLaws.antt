@@ -10,8 +10,8 @@ use Rattle.wire.specs.Layout.{entry_words}
 use Rattle.wire.specs.declared.error.WireError.{WireError}
 use Rattle.wire_check.specs.Writing.{total, check_lines}
 use Rattle.wire_check.specs.Stages.{Good, Fits}
-use Rattle.wire_check.specs.declared.size.Measured.{Measured}
-use Rattle.wire_check.specs.declared.size.Measured.TheVariants.{Size, Refused}
+use Rattle.std.specs.declared.result.Result.{Result}
+use Rattle.std.specs.declared.result.Result.TheVariants.{Ok, Err}
 use Rattle.wire_check.proofs.LinesLaws.{check_lines_lem}
 use Rattle.text_size.specs.Statement.{tables_text, sizing_text, SizesText}
 use Rattle.text_size.specs.Stages.{rows_text, TextFits}
@@ -19,18 +19,18 @@ use Rattle.text_size.proofs.SizeLaws.{text_most}
 
 -- Both of `text_size`: what it answers, and what the writer goes by
 
-abbrev pub Sized : List ℕ → List ℕ → List ℕ → Measured → Type 0
+abbrev pub Sized : List ℕ → List ℕ → List ℕ → Result ℕ WireError → Type 0
 Sized area rows values r = SizesText area rows values r × TextFits area rows values r
 
-module _ (area rows values : List ℕ) (r : Measured) (measured : Fits area rows values r) where
-  pub size_refused : (refusal : WireError) → r ≡ Refused refusal → Sized area rows values (Refused refusal)
+module _ (area rows values : List ℕ) (r : Result ℕ WireError) (measured : Fits area rows values r) where
+  pub size_refused : (refusal : WireError) → r ≡ Err refusal → Sized area rows values (Err refusal)
   unfolding sizing_text
   size_refused refusal e =
-      let failed : Fits area rows values (Refused refusal) = rw e at measured in
+      let failed : Fits area rows values (Err refusal) = rw e at measured in
       (sym (check_lines_lem area rows values _ ∙ failed _), λ rest. check_lines_lem area rows values rest ∙ failed rest)
 
-  module _ (size : ℕ) (e : r ≡ Size size) where
-    passed : Fits area rows values (Size size)
+  module _ (size : ℕ) (e : r ≡ Ok size) where
+    passed : Fits area rows values (Ok size)
     passed = rw e at measured
 
     pub tables_good : Good area values
@@ -42,7 +42,7 @@ module _ (area rows values : List ℕ) (r : Measured) (measured : Fits area rows
     pub text_short : length (rows_text area rows values 0) < 2 ^ 64
     text_short = omega (arith, text_most area rows values, passed.1.0, passed.1.1)
 
-    pub size_told : (n : ℕ) → n ≡ length (rows_text area rows values 0) → Sized area rows values (Size n)
+    pub size_told : (n : ℕ) → n ≡ length (rows_text area rows values 0) → Sized area rows values (Ok n)
     unfolding sizing_text tables_text
     size_told n is =
         let silent : (rest : Answer) → decide (check_lines area rows values) rest ≡ rest = λ rest. check_lines_lem area rows values rest ∙ passed.1.2 rest in

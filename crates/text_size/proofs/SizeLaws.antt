@@ -15,7 +15,7 @@ use Rattle.words.proofs.DecideLaws.{pick_case}
 use Rattle.numerals.specs.Statement.{decimal}
 use Rattle.numerals.proofs.SpelledLaws.{length_lowest, lowest, length_spelled_most}
 use Rattle.wire.specs.Layout.{null_mark, entry_words, scalar, blob, payload, flag, values_in}
-use Rattle.wire.specs.Content.{Cell, Row, null, values, content_in, cell_in, cells_in, row_in, rows_from}
+use Rattle.wire.specs.Content.{Cell, null, values, cell_in, cells_in, row_in, rows_from}
 use Rattle.wire.proofs.TypeLaws.{scalar_yes, scalar_low, blob_yes, blob_low}
 use Rattle.wire_check.specs.Writing.{total, size_of, value_size, values_size, row_size, rows_size, rowset_size}
 use Rattle.wire_check.proofs.TableLaws.{by_test, total_more}
@@ -260,8 +260,9 @@ RowsLeft area rows table size k i =
     × (size + length (rows_text area (drop i rows) table k) ≡ length (rows_text area rows table 0))
 
 module _ (area table : List ℕ) (start count size k left : ℕ) (so_far : ValuesLeft area table start count size k left) (some : 0 < left) where
-  pub values_go : (n : ℕ) → n ≡ length (entry_text area table k) → ValuesLeft area table start count (size + (n + 1)) (k + entry_words) (left - 1)
-  values_go n e = (omega arith, omega arith, values_size_more area table left k _ size n some so_far.2 e)
+  pub values_go : (n : ℕ) → n ≡ length (entry_text area table k) → (fewer : ℕ) → fewer ≡ left - 1
+      → ValuesLeft area table start count (size + (n + 1)) (k + entry_words) fewer
+  values_go n e fewer is = rw is (omega arith, omega arith, values_size_more area table left k _ size n some so_far.2 e)
 
   -- the next value is no longer than what is left
   pub entry_short : size + (length (entry_text area table k) + 1) ≤ length (values_text area table count start)

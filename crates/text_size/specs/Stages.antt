@@ -1,13 +1,12 @@
 -- What the private stages hand on: nobody has to believe it. Assumes nothing.
-use Rattle.std.specs.Prelude.{ℕ, ◌≡◌, List, [], ◌∷◌, ◌++◌, length}
+use Rattle.std.specs.Prelude.{ℕ, ◌≡◌, List, [], ◌∷◌, ◌++◌, length, Result, Ok, Err}
 use Rattle.words.specs.Answer.{Answer}
 use Rattle.words.specs.Decide.{decide}
 use Rattle.wire.specs.Content.{Cell, content_in, cell_in, cells_in, rows_from}
 use Rattle.wire.specs.Paper.{paper}
 use Rattle.wire_check.specs.Writing.{check_lines}
 use Rattle.wire_check.specs.Stages.{Sound}
-use Rattle.wire_check.specs.declared.size.Measured.{Measured}
-use Rattle.wire_check.specs.declared.size.Measured.TheVariants.{Size, Refused}
+use Rattle.wire.specs.declared.error.WireError.{WireError}
 use Rattle.text_form.specs.Form.{tab, line_feed, cell_text, text}
 use Rattle.text_size.specs.Statement.{tables_text}
 
@@ -38,10 +37,10 @@ abbrev pub rows_text : List ℕ → List ℕ → List ℕ → ℕ → List ℕ
 rows_text area rows values k = text (rows_from area rows values k)
 
 -- what the writer goes by: where the checks pass the tables are sound, and what follows the checks decides
-abbrev pub TextFits : List ℕ → List ℕ → List ℕ → Measured → Type 0
-TextFits area rows values (Size n) =
+abbrev pub TextFits : List ℕ → List ℕ → List ℕ → Result ℕ WireError → Type 0
+TextFits area rows values (Ok n) =
     Sound area rows values
     × (n ≡ length (tables_text area rows values))
     × ((rest : Answer) → decide (check_lines area rows values) rest ≡ rest)
-TextFits area rows values (Refused refusal) =
+TextFits area rows values (Err refusal) =
     (rest : Answer) → decide (check_lines area rows values) rest ≡ paper refusal

@@ -13,9 +13,10 @@ ghost use Rattle.text_size.specs.Stages.{value_text, entry_text, values_text, ro
 
 use numerals::decimal_size;
 use text_spell::{WORD_DIGITS, is_escaped};
+use wire::error::WireError;
 use wire::kind::{Kind, kind_of};
 use wire::layout::{ENTRY_WORDS, NULL_ROW_MARKER, flag, values_in};
-use wire_check::size::{Measured, encoded_size};
+use wire_check::size::encoded_size;
 
 // A blob's byte: itself, or a percent sign and two digits.
 fn unit_size(byte: u8) -> usize
@@ -29,10 +30,8 @@ fn units_size(bytes: &[u8]) -> usize
     ensures { result ≡ length (units bytes.now) }
 {
     let mut size: usize = 0;
-    let mut i = 0;
-    while i < bytes.len() {
-        size += unit_size(bytes[i]);
-        i += 1;
+    for byte in bytes {
+        size += unit_size(*byte);
     }
     size
 }
@@ -51,8 +50,7 @@ fn value_size(area: &[u8], id: u64, kind: u64, aggregate: u64, bits: u64, length
 {
     let start = head_size(id, aggregate);
     match kind_of(kind) {
-        Kind::Null => start,
-        Kind::Unknown => start,
+        Kind::Null | Kind::Unknown => start,
         Kind::Scalar => start + WORD_DIGITS,
         Kind::Blob => {
             let offset = bits as usize;
@@ -86,11 +84,9 @@ fn values_size(area: &[u8], values: &[u64], start: usize, count: usize) -> usize
 {
     let mut size: usize = 0;
     let mut k = start;
-    let mut left = count;
-    while 0 < left {
+    for _n in 0..count {
         size += entry_size(area, values, k) + 1;
         k += ENTRY_WORDS;
-        left -= 1;
     }
     size
 }
@@ -102,13 +98,11 @@ fn row_size(area: &[u8], values: &[u64], count: u64, k: usize) -> usize
         × (length (row_text (row_in area.now values.now count k)) < 2 ^ 64) }
     ensures { result ≡ length (row_text (row_in area.now values.now count k)) }
 {
-    if count == NULL_ROW_MARKER {
-        return 2;
+    match count {
+        NULL_ROW_MARKER => 2,
+        0 => 1,
+        _ => values_size(area, values, k, count as usize),
     }
-    if count == 0 {
-        return 1;
-    }
-    values_size(area, values, k, count as usize)
 }
 
 fn rows_size(area: &[u8], rows: &[u64], values: &[u64]) -> usize
@@ -118,23 +112,18 @@ fn rows_size(area: &[u8], rows: &[u64], values: &[u64]) -> usize
 {
     let mut size: usize = 0;
     let mut k = 0;
-    let mut i = 0;
-    while i < rows.len() {
-        let count = rows[i];
-        size += row_size(area, values, count, k);
-        k += ENTRY_WORDS * (values_in(count) as usize);
-        i += 1;
+    for count in rows {
+        size += row_size(area, values, *count, k);
+        k += ENTRY_WORDS * (values_in(*count) as usize);
     }
     size
 }
 
 // How many bytes `write_text` writes, with the checks that the rowset's writer makes.
-pub fn text_size(area: &[u8], rows: &[u64], values: &[u64]) -> Measured
+pub fn text_size(area: &[u8], rows: &[u64], values: &[u64]) -> Result<usize, WireError>
     ensures sizes_text { SizesText area.now rows.now values.now result }
     ensures text_fits { TextFits area.now rows.now values.now result }
 {
-    match encoded_size(area, rows, values) {
-        Measured::Refused(refusal) => Measured::Refused(refusal),
-        Measured::Size(_) => Measured::Size(rows_size(area, rows, values)),
-    }
+    encoded_size(area, rows, values)?;
+    Ok(rows_size(area, rows, values))
 }

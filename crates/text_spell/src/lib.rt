@@ -12,79 +12,48 @@ use wire::kind::{ANY, BOOLEAN, COMPOSITE, DOUBLE, INT64, NULL, STRING, UINT64};
 // The hex digits of a scalar's word.
 pub const WORD_DIGITS: usize = 16;
 
-// The letter of a type, 0 for a type that is not known.
+// The letter of a type, 0 for a type that is not known. No `Option`: `letter_of` of the rows' form is a function to
+// bytes, and the clause is the equation with it. So it is with the functions below that answer 0 or 16.
+#[tactic(auto, unfolding(text_form::specs::Form::letter_of))]
 pub fn letter(kind: u64) -> u8
     ensures { IsLetter kind result }
 {
-    if kind == NULL {
-        return b'n';
+    match kind {
+        NULL => b'n',
+        INT64 => b'i',
+        UINT64 => b'u',
+        DOUBLE => b'd',
+        BOOLEAN => b'b',
+        STRING => b's',
+        ANY => b'a',
+        COMPOSITE => b'c',
+        _ => 0,
     }
-    if kind == INT64 {
-        return b'i';
-    }
-    if kind == UINT64 {
-        return b'u';
-    }
-    if kind == DOUBLE {
-        return b'd';
-    }
-    if kind == BOOLEAN {
-        return b'b';
-    }
-    if kind == STRING {
-        return b's';
-    }
-    if kind == ANY {
-        return b'a';
-    }
-    if kind == COMPOSITE {
-        return b'c';
-    }
-    0
 }
 
 // The type of a letter, 0 for any other byte.
+#[tactic(auto, unfolding(text_form::specs::Walk::type_of))]
 pub fn type_of(byte: u8) -> u64
     ensures { IsType byte result }
 {
-    if byte == b'n' {
-        return NULL;
+    match byte {
+        b'n' => NULL,
+        b'i' => INT64,
+        b'u' => UINT64,
+        b'd' => DOUBLE,
+        b'b' => BOOLEAN,
+        b's' => STRING,
+        b'a' => ANY,
+        b'c' => COMPOSITE,
+        _ => 0,
     }
-    if byte == b'i' {
-        return INT64;
-    }
-    if byte == b'u' {
-        return UINT64;
-    }
-    if byte == b'd' {
-        return DOUBLE;
-    }
-    if byte == b'b' {
-        return BOOLEAN;
-    }
-    if byte == b's' {
-        return STRING;
-    }
-    if byte == b'a' {
-        return ANY;
-    }
-    if byte == b'c' {
-        return COMPOSITE;
-    }
-    0
 }
 
 // Whether a blob's byte stands escaped.
 pub fn is_escaped(byte: u8) -> bool
     ensures { TellsEscaped byte result }
 {
-    if byte < 0x21 {
-        return true;
-    }
-    if 0x7e < byte {
-        return true;
-    }
-    byte == b'%'
+    byte < 0x21 || 0x7e < byte || byte == b'%'
 }
 
 // The small letter or the digit of this value, without a test: digits come as they will.

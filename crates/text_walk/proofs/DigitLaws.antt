@@ -17,7 +17,7 @@ use Rattle.words.proofs.DecideLaws.{le_or_gt, first_none}
 use Rattle.wire.specs.Layout.{boolean}
 use Rattle.text_form.specs.Walk.{small_value, capital_value, fits_word}
 use Rattle.text_walk.specs.Stages.{Digits, Fits, WordChecks, High, EscapeChecks}
-use Rattle.text_walk.specs.declared.check.Step.TheVariants.{To}
+use Rattle.std.specs.declared.result.Result.TheVariants.{Ok}
 use Rattle.text_walk.proofs.CheckLaws.{WordLeft, word_begins, word_on, word_done, escape_whole}
 
 -- Bits that are all 0
@@ -102,14 +102,14 @@ module _ (s : List ℕ) (start type : ℕ) (there : start + 16 ≤ length s) (fi
   up_to zero h = subst (λ (i : ℕ). WordLeft s start type i 16) (sym (add-zero start)) (word_begins s start type (omega arith))
   up_to (suc n) h = next n (start + suc n) (16 - suc n) h (omega arith) (omega arith) (up_to n (omega arith))
 
-  word_whole : WordChecks s start type (To (start + 16))
+  word_whole : WordChecks s start type (Ok (start + 16))
   word_whole = word_done s start type (start + 16) 0 (up_to 16 (omega arith)) (omega arith)
 
 module _ (s : List ℕ) (start type : ℕ) (there : start + 16 ≤ length s) where
-  pub word_boolean : type ≡ boolean → Fits boolean (take (start + 16 - start) (drop start s)) → WordChecks s start type (To (start + 16))
+  pub word_boolean : type ≡ boolean → Fits boolean (take (start + 16 - start) (drop start s)) → WordChecks s start type (Ok (start + 16))
   word_boolean e fit = word_whole s start type there (rw e fit)
 
-  pub word_digits : (type ≡ boolean → ⊥) → Digits 16 (take (start + 16 - start) (drop start s)) → WordChecks s start type (To (start + 16))
+  pub word_digits : (type ≡ boolean → ⊥) → Digits 16 (take (start + 16 - start) (drop start s)) → WordChecks s start type (Ok (start + 16))
   word_digits other all =
       word_whole s start type there (λ k h. rw (le-ltb 15 (small_value (get_or (take (start + 16 - start) (drop start s)) k 0)) (all k h), ne_eqb type boolean other))
 
@@ -138,8 +138,8 @@ high_alone h e =
 pub high_at : {b n : ℕ} → b ≡ n → alone (capital_value n) ≡ true → High (capital_value b)
 high_at {n = n} e told = rw e (high_alone (capital_value n) told)
 
-pub escape_by : (s : List ℕ) (i : ℕ) → i + 2 ≤ length s → High (capital_value (get_or s i 0)) → capital_value (get_or s (i + 1) 0) ≤ 15 → EscapeChecks s i (To (i + 2))
+pub escape_by : (s : List ℕ) (i : ℕ) → i + 2 ≤ length s → High (capital_value (get_or s i 0)) → capital_value (get_or s (i + 1) 0) ≤ 15 → EscapeChecks s i (Ok (i + 2))
 escape_by s i h high low =
     let both : i + 1 + 1 ≡ i + 2 = omega arith in
-    subst (λ (n : ℕ). EscapeChecks s i (To n)) both
+    subst (λ (n : ℕ). EscapeChecks s i (Ok n)) both
     (escape_whole s i (omega arith) (capital_value (get_or s i 0)) refl true (sym high.0) refl (omega arith) (capital_value (get_or s (i + 1) 0)) refl low true (sym (high.1 (capital_value (get_or s (i + 1) 0)) low)) refl)

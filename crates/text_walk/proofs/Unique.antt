@@ -16,7 +16,8 @@ use Rattle.text_walk.specs.Statement.{counting, Counts}
 use Rattle.text_walk.specs.declared.error.TextError.{TextError}
 use Rattle.text_walk.specs.declared.error.TextError.TheVariants.{BadText, Limit}
 use Rattle.text_walk.specs.declared.walk.Walked.{Walked}
-use Rattle.text_walk.specs.declared.walk.Walked.TheVariants.{Counted, Stopped}
+use Rattle.std.specs.declared.result.Result.{Result}
+use Rattle.std.specs.declared.result.Result.TheVariants.{Ok, Err}
 
 -- the refusal of an answer: 19, or one of a rowset
 abbrev pub text_of : Answer → TextError
@@ -39,12 +40,12 @@ pub text_back : (e : TextError) → text_of (text_paper e) ≡ e
 text_back (BadText place) = refl
 text_back (Limit e) = limit_back e ∙ ap Limit (paper_back_lem e)
 
-abbrev pub walked_of : Answer → Walked
-walked_of (accepted n fields) = Counted (get_or fields 0 0) (get_or fields 1 0) n
-walked_of more = Stopped (text_of more)
-walked_of (refused number values consumed) = Stopped (text_of (refused number values consumed))
+abbrev pub walked_of : Answer → Result Walked TextError
+walked_of (accepted n fields) = Ok record { rows = get_or fields 0 0; values = get_or fields 1 0; bytes = n }
+walked_of more = Err (text_of more)
+walked_of (refused number values consumed) = Err (text_of (refused number values consumed))
 
-stopped_back : (e : TextError) → walked_of (text_paper e) ≡ Stopped (text_of (text_paper e))
+stopped_back : (e : TextError) → walked_of (text_paper e) ≡ Err (text_of (text_paper e))
 stopped_back (BadText place) = refl
 stopped_back (Limit (Truncated offset needed)) = refl
 stopped_back (Limit (TooManyRows count)) = refl
@@ -56,9 +57,9 @@ stopped_back (Limit (TrailingBytes n)) = refl
 stopped_back (Limit (NoRoom short)) = refl
 stopped_back (Limit (BadTable rule position)) = refl
 
-pub walked_back : (r : Walked) → walked_of (walked_paper r) ≡ r
-walked_back (Counted rows values bytes) = refl
-walked_back (Stopped e) = stopped_back e ∙ ap Stopped (text_back e)
+pub walked_back : (r : Result Walked TextError) → walked_of (walked_paper r) ≡ r
+walked_back (Ok walked) = refl
+walked_back (Err e) = stopped_back e ∙ ap Err (text_back e)
 
 pub count_text_unique : (s : List ℕ) → OneResult (Counts s)
 count_text_unique s = means_one walked_paper walked_of walked_back (counting s)

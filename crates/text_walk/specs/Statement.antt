@@ -1,6 +1,6 @@
 -- What `count_text` promises, by name: how many rows, values and blob bytes a text within the limits has, or what is
 -- met first. (The maps of answers promise words' `Tells`.) Assumes nothing.
-use Rattle.std.specs.Prelude.{ℕ, List, [], ◌∷◌, ◌⊎◌, length}
+use Rattle.std.specs.Prelude.{ℕ, List, [], ◌∷◌, ◌⊎◌, length, Result}
 use Rattle.std.proofs.Common.{inl, inr}
 use Rattle.words.specs.Answer.{Answer, accepted, refuse}
 use Rattle.words.specs.Statement.{Means}
@@ -10,6 +10,7 @@ use Rattle.text_form.specs.Walk.{start}
 use Rattle.text_form.specs.Limits.{walk_within}
 use Rattle.text_steps.specs.Tables.{all_cells, area_bytes}
 use Rattle.text_walk.specs.Paper.{walked_paper}
+use Rattle.text_walk.specs.declared.error.TextError.{TextError}
 use Rattle.text_walk.specs.declared.walk.Walked.{Walked}
 
 -- the reading of a whole text, byte by byte
@@ -29,5 +30,5 @@ counts rows = accepted (length (area_bytes rows)) (length rows ∷ length (all_c
 unfoldable pub counting : List ℕ → Answer
 counting s = ending_as counts (walking s)
 
-abbrev pub Counts : List ℕ → Walked → Type 0
+abbrev pub Counts : List ℕ → Result Walked TextError → Type 0
 Counts s r = Means walked_paper (counting s) r

@@ -10,7 +10,7 @@ ghost use Rattle.text_steps.specs.Stages.{is_digit};
 ghost use Rattle.text_walk.specs.Stages.{IdChecks, LetterChecks, HeadChecks, Digits, Fits, WordChecks, High, EscapeChecks};
 ghost use Rattle.text_walk.specs.Stages.{UnitsCheck, EndChecks, ScalarChecks, BlobChecks, ValueChecks, ValuesCheck, NullChecks, LineChecks};
 
-use super::error::TextError;
+use super::error::{BadPlace, TextError};
 use text_spell::{capital_value, is_escaped, small_value, type_of};
 use wire::error::WireError;
 use wire::kind::{BOOLEAN, Kind, kind_of};
@@ -27,96 +27,79 @@ const ZEROS_AND_ONE: u64 = 0x3130_3030_3030_3030;
 // One value more than a row may have.
 const TOO_MANY_VALUES: u64 = MAX_VALUES_PER_ROW + 1;
 
-// Where the next piece begins, or the place of 19.
-#[derive(Clone, Copy)]
-pub(crate) enum Step {
-    To(usize),
-    Bad(usize),
-}
-
 // The type that a value's head names, and where its content begins.
 #[derive(Clone, Copy)]
-pub(crate) enum Head {
-    Typed { next: usize, kind: u64 },
-    Headless(usize),
+pub(crate) struct Head {
+    pub(crate) next: usize,
+    pub(crate) kind: u64,
 }
 
 // A blob's bytes up to the tab or line feed behind them.
 #[derive(Clone, Copy)]
-pub(crate) enum Blob {
-    Ends { next: usize, length: usize },
-    Fails(TextError),
+pub(crate) struct Blob {
+    pub(crate) next: usize,
+    pub(crate) length: usize,
 }
 
 // A value with the byte behind it, the rowset's size with it, and whether that byte ended the line.
 #[derive(Clone, Copy)]
-pub(crate) enum Value {
-    Whole {
-        next: usize,
-        length: usize,
-        size: usize,
-        last: bool,
-    },
-    Broken(TextError),
+pub(crate) struct Value {
+    pub(crate) next: usize,
+    pub(crate) length: usize,
+    pub(crate) size: usize,
+    pub(crate) last: bool,
 }
 
 // A line: where the next begins, how many values and blob bytes it has, and the rowset's size with it.
 #[derive(Clone, Copy)]
-pub(crate) enum Line {
-    Ended {
-        next: usize,
-        values: usize,
-        bytes: usize,
-        size: usize,
-    },
-    Failed(TextError),
+pub(crate) struct Line {
+    pub(crate) next: usize,
+    pub(crate) values: usize,
+    pub(crate) bytes: usize,
+    pub(crate) size: usize,
 }
 
 // The rest of an id whose digits so far spell `first`, and its colon.
-fn check_id(text: &[u8], start: usize, first: u64) -> Step
+fn check_id(text: &[u8], start: usize, first: u64) -> Result<usize, BadPlace>
     requires { (start ≤ length text.now) × (first ≤ 65535) }
     ensures { IdChecks text.now start first result }
 {
-    let mut at = start;
     let mut id = first;
-    while at < text.len() {
+    for at in start..text.len() {
         let byte = text[at];
         if byte == b':' {
-            return Step::To(at + 1);
+            return Ok(at + 1);
         }
         if byte < b'0' {
-            return Step::Bad(at);
+            return Err(BadPlace { place: at });
         }
         if b'9' < byte {
-            return Step::Bad(at);
+            return Err(BadPlace { place: at });
         }
         if id == 0 {
-            return Step::Bad(at);
+            return Err(BadPlace { place: at });
         }
         let more = id * 10 + (byte - b'0') as u64;
         if 65535 < more {
-            return Step::Bad(at);
+            return Err(BadPlace { place: at });
         }
         id = more;
-        at += 1;
     }
-    Step::Bad(at)
+    Err(BadPlace { place: text.len() })
 }
 
 // A type's letter, behind the colon or behind the aggregate's sign.
-fn check_letter(text: &[u8], at: usize) -> Head
+fn check_letter(text: &[u8], at: usize) -> Result<Head, BadPlace>
     requires { at ≤ length text.now }
     ensures { LetterChecks text.now at result }
 {
     if text.len() <= at {
-        return Head::Headless(at);
+        return Err(BadPlace { place: at });
     }
     let kind = type_of(text[at]);
     match kind_of(kind) {
-        Kind::Unknown => Head::Headless(at),
-        Kind::Null => Head::Typed { next: at + 1, kind },
-        Kind::Scalar => Head::Typed { next: at + 1, kind },
-        Kind::Blob => Head::Typed { next: at + 1, kind },
+        Kind::Unknown => Err(BadPlace { place: at }),
+        Kind::Null | Kind::Scalar | Kind::Blob => Ok(Head { next: at + 1, kind }),
     }
 }
 
@@ -131,24 +114,20 @@ fn byte_at(text: &[u8], at: usize) -> u8
 }
 
 // The rest of an id, its colon, the aggregate's sign and the type's letter.
-fn check_head(text: &[u8], start: usize, first: u64) -> Head
+fn check_head(text: &[u8], start: usize, first: u64) -> Result<Head, BadPlace>
     requires { (start ≤ length text.now) × (first ≤ 65535) }
     ensures { HeadChecks text.now start first result }
 {
-    match check_id(text, start, first) {
-        Step::Bad(place) => Head::Headless(place),
-        Step::To(next) => {
-            if byte_at(text, next) == b'!' {
-                return check_letter(text, next + 1);
-            }
-            check_letter(text, next)
-        }
+    let next = check_id(text, start, first)?;
+    if byte_at(text, next) == b'!' {
+        return check_letter(text, next + 1);
     }
+    check_letter(text, next)
 }
 
 // Whether a digit of this value fits a scalar of which `left` digits are to come, itself counted: a boolean is zeros
 // and then 0 or 1.
-fn digit_fits(kind: u64, left: u32, value: u32) -> bool
+fn digit_fits(kind: u64, left: usize, value: u32) -> bool
     requires { 0 < left }
     ensures { result ≡ fits_word kind (left - 1) value }
 {
@@ -165,23 +144,20 @@ fn digit_fits(kind: u64, left: u32, value: u32) -> bool
 }
 
 // The sixteen digits of a scalar's word, one after the other, so that the first that does not fit has its place.
-fn place_word(text: &[u8], start: usize, kind: u64) -> Step
+fn place_word(text: &[u8], start: usize, kind: u64) -> Result<usize, BadPlace>
     requires { start ≤ length text.now }
     ensures { WordChecks text.now start kind result }
 {
-    let mut at = start;
-    let mut left: u32 = 16;
-    while 0 < left {
+    for k in 0..16 {
+        let at = start + k;
         if text.len() <= at {
-            return Step::Bad(at);
+            return Err(BadPlace { place: at });
         }
-        if !digit_fits(kind, left, small_value(text[at])) {
-            return Step::Bad(at);
+        if !digit_fits(kind, 16 - k, small_value(text[at])) {
+            return Err(BadPlace { place: at });
         }
-        at += 1;
-        left -= 1;
     }
-    Step::To(at)
+    Ok(start + 16)
 }
 
 // 0 where this byte is a hex digit with small letters. Its value is computed as if it were one, below 16 whatever the
@@ -199,11 +175,9 @@ fn are_digits(bytes: &[u8]) -> bool
     requires { length bytes.now ≡ 16 }
     ensures { result ≡ true → Digits 16 bytes.now }
 {
-    let mut k: usize = 0;
     let mut misfits: u8 = 0;
-    while k < 16 {
-        misfits = misfits | misfit(bytes[k]);
-        k += 1;
+    for k in 0..16 {
+        misfits |= misfit(bytes[k]);
     }
     misfits == 0
 }
@@ -224,7 +198,7 @@ fn are_boolean(bytes: &[u8]) -> bool
 }
 
 // The sixteen digits of a scalar's word: all at once where they are there and fit.
-fn check_word(text: &[u8], start: usize, kind: u64) -> Step
+fn check_word(text: &[u8], start: usize, kind: u64) -> Result<usize, BadPlace>
     requires { start ≤ length text.now }
     ensures { WordChecks text.now start kind result }
 {
@@ -234,12 +208,12 @@ fn check_word(text: &[u8], start: usize, kind: u64) -> Step
     let digits = &text[start..start + 16];
     if kind == BOOLEAN {
         if are_boolean(digits) {
-            return Step::To(start + 16);
+            return Ok(start + 16);
         }
         return place_word(text, start, kind);
     }
     if are_digits(digits) {
-        return Step::To(start + 16);
+        return Ok(start + 16);
     }
     place_word(text, start, kind)
 }
@@ -248,88 +222,85 @@ fn check_word(text: &[u8], start: usize, kind: u64) -> Step
 fn high_fits(value: u32) -> bool
     ensures { result ≡ fits_high value }
 {
-    if value < 3 {
-        return true;
-    }
-    if value < 7 {
-        return false;
-    }
-    value < 16
+    matches!(value, 0..=2 | 7..=15)
 }
 
 // The two digits behind a percent sign, one after the other, so that the first that does not fit has its place.
-fn place_escape(text: &[u8], at: usize) -> Step
+fn place_escape(text: &[u8], at: usize) -> Result<usize, BadPlace>
     requires { at ≤ length text.now }
     ensures { EscapeChecks text.now at result }
 {
     if text.len() <= at {
-        return Step::Bad(at);
+        return Err(BadPlace { place: at });
     }
     let high = capital_value(text[at]);
     if !high_fits(high) {
-        return Step::Bad(at);
+        return Err(BadPlace { place: at });
     }
     let second = at + 1;
     if text.len() <= second {
-        return Step::Bad(second);
+        return Err(BadPlace { place: second });
     }
     let low = capital_value(text[second]);
     if 15 < low {
-        return Step::Bad(second);
+        return Err(BadPlace { place: second });
     }
     if !is_escaped((high * 16 + low) as u8) {
-        return Step::Bad(second);
+        return Err(BadPlace { place: second });
     }
-    Step::To(second + 1)
+    Ok(second + 1)
 }
 
-// Whether this is the high digit of escaped bytes alone.
+// Whether this is the high digit of escaped bytes alone. One arm for each digit, here and below: such a `match` on a
+// byte compiles to a table, patterns of ranges to one test behind the other.
+#[tactic(auto, unfolding(text_form::specs::Walk::capital_value))]
 fn is_high(high: u8) -> bool
     ensures { result ≡ true → High (capital_value high) }
 {
     match high {
-        48 => true,
-        49 => true,
-        56 => true,
-        57 => true,
-        65 => true,
-        66 => true,
-        67 => true,
-        68 => true,
-        69 => true,
-        70 => true,
+        b'0' => true,
+        b'1' => true,
+        b'8' => true,
+        b'9' => true,
+        b'A' => true,
+        b'B' => true,
+        b'C' => true,
+        b'D' => true,
+        b'E' => true,
+        b'F' => true,
         _ => false,
     }
 }
 
 // Whether this is a hex digit with capital letters.
+#[tactic(auto, unfolding(text_form::specs::Walk::capital_value))]
 fn is_low(low: u8) -> bool
     ensures { result ≡ true → capital_value low ≤ 15 }
 {
     match low {
-        48 => true,
-        49 => true,
-        50 => true,
-        51 => true,
-        52 => true,
-        53 => true,
-        54 => true,
-        55 => true,
-        56 => true,
-        57 => true,
-        65 => true,
-        66 => true,
-        67 => true,
-        68 => true,
-        69 => true,
-        70 => true,
+        b'0' => true,
+        b'1' => true,
+        b'2' => true,
+        b'3' => true,
+        b'4' => true,
+        b'5' => true,
+        b'6' => true,
+        b'7' => true,
+        b'8' => true,
+        b'9' => true,
+        b'A' => true,
+        b'B' => true,
+        b'C' => true,
+        b'D' => true,
+        b'E' => true,
+        b'F' => true,
         _ => false,
     }
 }
 
 // The two digits behind a percent sign, which spell a byte that must be escaped. Most have a high digit that tells so
 // by itself; their value is not wanted here.
-fn check_escape(text: &[u8], at: usize) -> Step
+fn check_escape(text: &[u8], at: usize) -> Result<usize, BadPlace>
     requires { at ≤ length text.now }
     ensures { EscapeChecks text.now at result }
 {
@@ -342,20 +313,20 @@ fn check_escape(text: &[u8], at: usize) -> Step
     if !is_low(text[at + 1]) {
         return place_escape(text, at);
     }
-    Step::To(at + 2)
+    Ok(at + 2)
 }
 
 // 12: a blob with one byte more than it may have.
-fn too_long() -> Blob
-    ensures { result ≡ Blob.Fails (TextError.Limit (WireError.ValueTooLong 16777217)) }
+fn too_long() -> TextError
+    ensures { result ≡ TextError.Limit (WireError.ValueTooLong 16777217) }
 {
-    Blob::Fails(TextError::Limit(WireError::ValueTooLong {
+    TextError::Limit(WireError::ValueTooLong {
         length: MAX_VALUE_LENGTH + 1,
-    }))
+    })
 }
 
 // A blob's bytes, up to the tab or line feed behind them.
-fn check_units(text: &[u8], start: usize) -> Blob
+fn check_units(text: &[u8], start: usize) -> Result<Blob, TextError>
     requires { start ≤ length text.now }
     ensures { UnitsCheck text.now start result }
 {
@@ -366,56 +337,42 @@ fn check_units(text: &[u8], start: usize) -> Blob
         let byte = text[at];
         if !is_escaped(byte) {
             if at == limit {
-                return too_long();
+                return Err(too_long());
             }
             at += 1;
             continue;
         }
-        if byte == b'%' {
-            match check_escape(text, at + 1) {
-                Step::Bad(place) => {
-                    return Blob::Fails(TextError::BadText { place });
+        match byte {
+            b'%' => {
+                let next = check_escape(text, at + 1)?;
+                if at == limit {
+                    return Err(too_long());
                 }
-                Step::To(next) => {
-                    if at == limit {
-                        return too_long();
-                    }
-                    limit += next - at - 1;
-                    at = next;
-                    continue;
-                }
+                limit += next - at - 1;
+                at = next;
             }
+            b'\t' | b'\n' => {
+                return Ok(Blob {
+                    next: at,
+                    length: at + MAX_VALUE_LENGTH as usize - limit,
+                });
+            }
+            _ => return Err(TextError::BadText { place: at }),
         }
-        if byte == b'\t' {
-            return Blob::Ends {
-                next: at,
-                length: at + MAX_VALUE_LENGTH as usize - limit,
-            };
-        }
-        if byte == b'\n' {
-            return Blob::Ends {
-                next: at,
-                length: at + MAX_VALUE_LENGTH as usize - limit,
-            };
-        }
-        return Blob::Fails(TextError::BadText { place: at });
     }
-    Blob::Fails(TextError::BadText { place: at })
+    Err(TextError::BadText { place: at })
 }
 
 // A tab or a line feed.
 fn ends_value(byte: u8) -> bool
     ensures { result ≡ (byte =? tab || byte =? line_feed) }
 {
-    if byte == b'\t' {
-        return true;
-    }
-    byte == b'\n'
+    byte == b'\t' || byte == b'\n'
 }
 
 // The tab or line feed behind a value of so many blob bytes, with which the rowset has this size: 13 where that is too
 // much.
-fn check_end(text: &[u8], at: usize, length: usize, size: usize) -> Value
+fn check_end(text: &[u8], at: usize, length: usize, size: usize) -> Result<Value, TextError>
     requires { at ≤ lib.ListN.length text.now }
     ensures { EndChecks text.now at length size result }
 {
@@ -423,71 +380,60 @@ fn check_end(text: &[u8], at: usize, length: usize, size: usize) -> Value
     let ends = ends_value(byte);
     let large = MAX_ROWSET_SIZE < size;
     if !ends {
-        return Value::Broken(TextError::BadText { place: at });
+        return Err(TextError::BadText { place: at });
     }
     if large {
-        return Value::Broken(TextError::Limit(WireError::RowsetTooLarge { size }));
+        return Err(TextError::Limit(WireError::RowsetTooLarge { size }));
     }
-    Value::Whole {
+    Ok(Value {
         next: at + 1,
         length,
         size,
         last: byte == b'\n',
-    }
+    })
 }
 
 // A scalar's digits and the byte behind them, with which the rowset has this size.
-fn check_scalar(text: &[u8], at: usize, kind: u64, size: usize) -> Value
+fn check_scalar(text: &[u8], at: usize, kind: u64, size: usize) -> Result<Value, TextError>
     requires { at ≤ length text.now }
     ensures { ScalarChecks text.now at kind size result }
 {
-    match check_word(text, at, kind) {
-        Step::Bad(place) => Value::Broken(TextError::BadText { place }),
-        Step::To(next) => check_end(text, next, 0, size),
-    }
+    let next = check_word(text, at, kind)?;
+    check_end(text, next, 0, size)
 }
 
 // A blob's bytes and the byte behind them; before the value the rowset has this size.
-fn check_blob(text: &[u8], at: usize, size: usize) -> Value
+fn check_blob(text: &[u8], at: usize, size: usize) -> Result<Value, TextError>
     requires { (at ≤ length text.now) × (size ≤ max_size) }
     ensures { BlobChecks text.now at size result }
 {
-    match check_units(text, at) {
-        Blob::Fails(refusal) => Value::Broken(refusal),
-        Blob::Ends { next, length } => {
-            check_end(text, next, length, size + WORD_SIZE + padded(length as u32))
-        }
-    }
+    let Blob { next, length } = check_units(text, at)?;
+    check_end(text, next, length, size + WORD_SIZE + padded(length as u32))
 }
 
 // A value whose id begins with `first`, and the byte behind it; before it the rowset has this size.
-fn check_value(text: &[u8], start: usize, first: u64, size: usize) -> Value
+fn check_value(text: &[u8], start: usize, first: u64, size: usize) -> Result<Value, TextError>
     requires { (start ≤ length text.now) × (first ≤ 65535) × (size ≤ max_size) }
     ensures { ValueChecks text.now start first size result }
 {
-    match check_head(text, start, first) {
-        Head::Headless(place) => Value::Broken(TextError::BadText { place }),
-        Head::Typed { next, kind } => match kind_of(kind) {
-            Kind::Null => check_end(text, next, 0, size + WORD_SIZE),
-            Kind::Unknown => check_end(text, next, 0, size + WORD_SIZE),
-            Kind::Scalar => check_scalar(text, next, kind, size + WORD_SIZE + WORD_SIZE),
-            Kind::Blob => check_blob(text, next, size),
-        },
+    let Head { next, kind } = check_head(text, start, first)?;
+    match kind_of(kind) {
+        Kind::Null | Kind::Unknown => check_end(text, next, 0, size + WORD_SIZE),
+        Kind::Scalar => check_scalar(text, next, kind, size + WORD_SIZE + WORD_SIZE),
+        Kind::Blob => check_blob(text, next, size),
     }
 }
 
+// A digit of a decimal number.
 fn is_digit(byte: u8) -> bool
     ensures { result ≡ is_digit byte }
 {
-    if byte < b'0' {
-        return false;
-    }
-    byte < 58
+    byte.is_ascii_digit()
 }
 
 // The values of a line whose first byte is a digit, in the row of this number; with the row's word the rowset has the
 // size `before`.
-fn check_values(text: &[u8], start: usize, row: usize, before: usize) -> Line
+fn check_values(text: &[u8], start: usize, row: usize, before: usize) -> Result<Line, TextError>
     requires { (start ≤ length text.now) × (is_digit (get_or text.now start 0) ≡ true) × (row < max_rows)
         × (before ≤ max_size) }
     ensures { ValuesCheck text.now start row before result }
@@ -501,102 +447,88 @@ fn check_values(text: &[u8], start: usize, row: usize, before: usize) -> Line
         let digit = is_digit(byte);
         let full = count == MAX_VALUES_PER_ROW as usize;
         if !digit {
-            return Line::Failed(TextError::BadText { place: at });
+            return Err(TextError::BadText { place: at });
         }
         if full {
-            return Line::Failed(TextError::Limit(WireError::TooManyValues {
+            return Err(TextError::Limit(WireError::TooManyValues {
                 row,
                 count: TOO_MANY_VALUES,
             }));
         }
-        match check_value(text, at + 1, (byte - b'0') as u64, size) {
-            Value::Broken(refusal) => {
-                return Line::Failed(refusal);
-            }
-            Value::Whole {
+        let Value {
+            next,
+            length,
+            size: sum,
+            last,
+        } = check_value(text, at + 1, (byte - b'0') as u64, size)?;
+        count += 1;
+        bytes += length;
+        size = sum;
+        at = next;
+        if last {
+            return Ok(Line {
                 next,
-                length,
-                size: sum,
-                last,
-            } => {
-                count += 1;
-                bytes += length;
-                size = sum;
-                at = next;
-                if last {
-                    return Line::Ended {
-                        next,
-                        values: count,
-                        bytes,
-                        size,
-                    };
-                }
-            }
+                values: count,
+                bytes,
+                size,
+            });
         }
     }
-    Line::Failed(TextError::BadText { place: at })
+    Err(TextError::BadText { place: at })
 }
 
 // The line feed behind the sign of a null row, with which the rowset has this size.
-fn check_null(text: &[u8], at: usize, size: usize) -> Line
+fn check_null(text: &[u8], at: usize, size: usize) -> Result<Line, TextError>
     requires { at ≤ length text.now }
     ensures { NullChecks text.now at size result }
 {
     if text.len() <= at {
-        return Line::Failed(TextError::BadText { place: at });
+        return Err(TextError::BadText { place: at });
     }
     if text[at] != b'\n' {
-        return Line::Failed(TextError::BadText { place: at });
+        return Err(TextError::BadText { place: at });
     }
-    Line::Ended {
+    Ok(Line {
         next: at + 1,
         values: 0,
         bytes: 0,
         size,
-    }
+    })
 }
 
 // Whether a line may begin with this byte.
 fn begins_line(byte: u8) -> bool
     ensures { result ≡ (byte =? line_feed || byte =? null_sign || is_digit byte) }
 {
-    if byte == b'\n' {
-        return true;
-    }
-    if byte == b'#' {
-        return true;
-    }
-    is_digit(byte)
+    byte == b'\n' || byte == b'#' || is_digit(byte)
 }
 
 // The line of the row of this number; before it the rowset has this size.
-pub(crate) fn check_line(text: &[u8], at: usize, row: usize, size: usize) -> Line
+pub(crate) fn check_line(text: &[u8], at: usize, row: usize, size: usize) -> Result<Line, TextError>
     requires { (at < length text.now) × (row ≤ max_rows) × (size ≤ max_size) }
     ensures { LineChecks text.now at row size result }
 {
     let byte = text[at];
     if !begins_line(byte) {
-        return Line::Failed(TextError::BadText { place: at });
+        return Err(TextError::BadText { place: at });
     }
     if row == MAX_ROWS_PER_ROWSET as usize {
-        return Line::Failed(TextError::Limit(WireError::TooManyRows {
+        return Err(TextError::Limit(WireError::TooManyRows {
             count: MAX_ROWS_PER_ROWSET + 1,
         }));
     }
     let sum = size + WORD_SIZE;
     if MAX_ROWSET_SIZE < sum {
-        return Line::Failed(TextError::Limit(WireError::RowsetTooLarge { size: sum }));
+        return Err(TextError::Limit(WireError::RowsetTooLarge { size: sum }));
     }
-    if byte == b'\n' {
-        return Line::Ended {
+    match byte {
+        b'\n' => Ok(Line {
             next: at + 1,
             values: 0,
             bytes: 0,
             size: sum,
-        };
+        }),
+        b'#' => check_null(text, at + 1, sum),
+        _ => check_values(text, at, row, sum),
     }
-    if byte == b'#' {
-        return check_null(text, at + 1, sum);
-    }
-    check_values(text, at, row, sum)
 }

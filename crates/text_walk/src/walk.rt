@@ -4,18 +4,16 @@ ghost use Rattle.text_walk.specs.Statement.{Counts};
 use super::check::{Line, check_line};
 use super::error::TextError;
 
+// How many rows, values and blob bytes a text has.
 #[derive(Clone, Copy)]
-pub enum Walked {
-    Counted {
-        rows: usize,
-        values: usize,
-        bytes: usize,
-    },
-    Stopped(TextError),
+pub struct Walked {
+    pub rows: usize,
+    pub values: usize,
+    pub bytes: usize,
 }
 
 // Whether the text has the form and keeps the limits, and how much it would fill.
-pub fn count_text(text: &[u8]) -> Walked
+pub fn count_text(text: &[u8]) -> Result<Walked, TextError>
     ensures { Counts text.now result }
 {
     let mut at = 0;
@@ -24,27 +22,21 @@ pub fn count_text(text: &[u8]) -> Walked
     let mut bytes: usize = 0;
     let mut size: usize = 8;
     while at < text.len() {
-        match check_line(text, at, rows, size) {
-            Line::Failed(refusal) => {
-                return Walked::Stopped(refusal);
-            }
-            Line::Ended {
-                next,
-                values: more,
-                bytes: blob,
-                size: sum,
-            } => {
-                rows += 1;
-                values += more;
-                bytes += blob;
-                size = sum;
-                at = next;
-            }
-        }
+        let Line {
+            next,
+            values: more,
+            bytes: blob,
+            size: sum,
+        } = check_line(text, at, rows, size)?;
+        rows += 1;
+        values += more;
+        bytes += blob;
+        size = sum;
+        at = next;
     }
-    Walked::Counted {
+    Ok(Walked {
         rows,
         values,
         bytes,
-    }
+    })
 }

@@ -1,13 +1,13 @@
 -- What the writers leave, piece by piece: a head, a blob's bytes, a value, the values of a row, the rows. Assumes nothing.
 use mathlib.Core.Path.{◌≡◌, refl, sym, ◌∙◌, ap}
-use mathlib.Core.Bool.{Bool, true, false}
-use mathlib.Core.List.{List, [], ◌∷◌, ◌++◌, append_assoc, append-nil}
-use Prim.Native.Nat.{ℕ, zero, suc, ◌+◌, ◌*◌, ◌-◌, ◌/◌, ◌%◌, ◌<◌, ◌≤◌}
+use mathlib.Core.Bool.{true, false}
+use mathlib.Core.List.{List, [], ◌∷◌, ◌++◌, append_assoc}
+use Prim.Native.Nat.{ℕ, suc, ◌+◌, ◌*◌, ◌-◌, ◌/◌, ◌%◌, ◌<◌, ◌≤◌}
 use native.Mathlib.Omega.{arith}
 use lib.ListN.{length, get_or, set, take, drop, length-append}
 use borrow.Author.Tests.{eq-eqb, ne_eqb}
 use borrow.Rule.Slice.PartMut.{mid_of, put_mid}
-use Rattle.words.specs.Buffer.{over, fitted, stretch}
+use Rattle.words.specs.Buffer.{over, fitted}
 use Rattle.words.specs.Decide.{pick, ◌=?◌}
 use Rattle.words.proofs.BufferLaws.{over_store, length_over, fitted_fits}
 use Rattle.numerals.specs.Statement.{decimal}
@@ -221,11 +221,11 @@ module _ (area table : List ℕ) (start count : ℕ) (before now : List ℕ) (at
       pub separator_length : length (put_mid at (length now - at) now after) ≡ length before
       separator_length = length_now behind_entry
 
-      pub values_step : (b : ℕ) → b ≡ pick (left =? 1) line_feed tab
-          → ValuesToGo area table start count before (set (put_mid at (length now - at) now after) (at + r) b) (at + r + 1) (k + entry_words) (left - 1)
-      values_step b e =
+      pub values_step : (b : ℕ) → b ≡ pick (left =? 1) line_feed tab → (fewer : ℕ) → fewer ≡ left - 1
+          → ValuesToGo area table start count before (set (put_mid at (length now - at) now after) (at + r) b) (at + r + 1) (k + entry_words) fewer
+      values_step b e fewer is =
           let next : Filling (values_text area table count start) (b ∷ values_text area table (left - 1) (k + entry_words)) before (put_mid at (length now - at) now after) (at + r) = rw e behind_entry in
-          (omega arith, omega arith, store b (values_text area table (left - 1) (k + entry_words)) (at + r + 1) refl next)
+          rw is (omega arith, omega arith, store b (values_text area table (left - 1) (k + entry_words)) (at + r + 1) refl next)
 
 -- A row without values, and one with them
 

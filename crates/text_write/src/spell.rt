@@ -1,24 +1,24 @@
 // The digits of a word and of an escape, and what stands behind a value.
 // All of it is private to the crate.
-ghost use Rattle.std.specs.Prelude.{◌≡◌, ◌<◌};
-ghost use Rattle.words.specs.Decide.{pick, ◌=?◌};
-ghost use Rattle.words.specs.Text.{digit};
-ghost use Rattle.text_form.specs.Form.{tab, line_feed, capital};
+ghost use Rattle.std.specs.Prelude.{◌≡◌, ◌+◌, ◌<◌, ◌≤◌};
+ghost use Rattle.words.specs.Decide.{pick, ◌<?◌, ◌=?◌};
+ghost use Rattle.text_form.specs.Form.{tab, line_feed};
 
-// The capital hex digit of a value below 16.
-pub(crate) fn capital_digit(value: u8) -> u8
-    requires { value < 16 }
-    ensures { result ≡ capital value }
-{
-    if value < 10 { 48 + value } else { 55 + value }
-}
+// What a letter's value is added to, as a capital and as a small letter.
+pub(crate) const CAPITAL: u8 = b'A' - 10;
 
-// The small hex digit of a value below 16.
-pub(crate) fn small_digit(value: u8) -> u8
-    requires { value < 16 }
-    ensures { result ≡ digit value }
+pub(crate) const SMALL: u8 = b'a' - 10;
+
+// The hex digit of a value below 16, its letters capital or small.
+pub(crate) fn hex_digit<const LETTERS: u8>(value: u8) -> u8
+    requires { (value < 16) × (LETTERS ≤ 240) }
+    ensures { result ≡ pick (value <? 10) (48 + value) (LETTERS + value) }
 {
-    if value < 10 { 48 + value } else { 87 + value }
+    if value < 10 {
+        b'0' + value
+    } else {
+        LETTERS + value
+    }
 }
 
 // What stands behind a value of which `left` are still to be written, itself counted.

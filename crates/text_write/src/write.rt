@@ -10,15 +10,13 @@ ghost use Rattle.text_form.specs.Form.{unit, units, hexes, head, row_text};
 ghost use Rattle.text_write.specs.Statement.{WritesText};
 ghost use Rattle.text_size.specs.Stages.{value_text, entry_text, values_text, rows_text};
 
-use super::spell::{capital_digit, separator, small_digit};
+use super::spell::{CAPITAL, SMALL, hex_digit, separator};
 use numerals::write_decimal;
 use text_size::text_size;
 use text_spell::{WORD_DIGITS, is_escaped, letter};
 use wire::error::WireError;
 use wire::kind::{Kind, kind_of};
 use wire::layout::{ENTRY_WORDS, NULL_ROW_MARKER, values_in};
-use wire_check::size::Measured;
-use wire_write::write::Encoded;
 use words::outcome::{NoRoom, Room};
 
 // Id, colon, the aggregate's sign and the type's letter.
@@ -42,12 +40,10 @@ fn write_word(word: u64, out: &mut [u8]) -> usize
     requires { 16 ≤ length out.old }
     ensures { Puts (hexes 16 word) out.old out.new result }
 {
-    let mut left = WORD_DIGITS;
     let mut rest = word;
-    while 0 < left {
-        left -= 1;
-        out[left] = small_digit((rest % 16) as u8);
-        rest = rest / 16;
+    for at in (0..WORD_DIGITS).rev() {
+        out[at] = hex_digit::<SMALL>((rest % 16) as u8);
+        rest /= 16;
     }
     WORD_DIGITS
 }
@@ -59,8 +55,8 @@ fn write_unit(byte: u8, out: &mut [u8]) -> usize
 {
     if is_escaped(byte) {
         out[0] = b'%';
-        out[1] = capital_digit(byte / 16);
-        out[2] = capital_digit(byte % 16);
+        out[1] = hex_digit::<CAPITAL>(byte / 16);
+        out[2] = hex_digit::<CAPITAL>(byte % 16);
         return 3;
     }
     out[0] = byte;
@@ -72,10 +68,8 @@ fn write_units(bytes: &[u8], out: &mut [u8]) -> usize
     ensures { Puts (units bytes.now) out.old out.new result }
 {
     let mut at = 0;
-    let mut i = 0;
-    while i < bytes.len() {
-        at += write_unit(bytes[i], &mut out[at..]);
-        i += 1;
+    for byte in bytes {
+        at += write_unit(*byte, &mut out[at..]);
     }
     at
 }
@@ -96,8 +90,7 @@ fn write_value(
 {
     let at = write_head(id, aggregate, letter(kind), out);
     match kind_of(kind) {
-        Kind::Null => at,
-        Kind::Unknown => at,
+        Kind::Null | Kind::Unknown => at,
         Kind::Scalar => {
             let size = write_word(bits, &mut out[at..]);
             at + size
@@ -138,13 +131,11 @@ fn write_values(area: &[u8], values: &[u64], start: usize, count: usize, out: &m
 {
     let mut at = 0;
     let mut k = start;
-    let mut left = count;
-    while 0 < left {
+    for n in 0..count {
         at += write_entry(area, values, k, &mut out[at..]);
-        out[at] = separator(left);
+        out[at] = separator(count - n);
         at += 1;
         k += ENTRY_WORDS;
-        left -= 1;
     }
     at
 }
@@ -157,16 +148,18 @@ fn write_row(area: &[u8], values: &[u64], count: u64, k: usize, out: &mut [u8]) 
     ensures { Puts (row_text (row_in area.now values.now count k)) out.old
         out.new result }
 {
-    if count == NULL_ROW_MARKER {
-        out[0] = b'#';
-        out[1] = b'\n';
-        return 2;
+    match count {
+        NULL_ROW_MARKER => {
+            out[0] = b'#';
+            out[1] = b'\n';
+            2
+        }
+        0 => {
+            out[0] = b'\n';
+            1
+        }
+        _ => write_values(area, values, k, count as usize, out),
     }
-    if count == 0 {
-        out[0] = b'\n';
-        return 1;
-    }
-    write_values(area, values, k, count as usize, out)
 }
 
 // All rows, each at its own stretch of the output.
@@ -178,33 +171,31 @@ fn write_rows(area: &[u8], rows: &[u64], values: &[u64], out: &mut [u8]) -> usiz
 {
     let mut at = 0;
     let mut k = 0;
-    let mut i = 0;
-    while i < rows.len() {
-        let count = rows[i];
-        at += write_row(area, values, count, k, &mut out[at..]);
-        k += ENTRY_WORDS * (values_in(count) as usize);
-        i += 1;
+    for count in rows {
+        at += write_row(area, values, *count, k, &mut out[at..]);
+        k += ENTRY_WORDS * (values_in(*count) as usize);
     }
     at
 }
 
 // Writes the text of the tables' rows over the front of the output; a refusal leaves it as it was.
-pub fn write_text(area: &[u8], rows: &[u64], values: &[u64], out: &mut [u8]) -> Encoded
+pub fn write_text(
+    area: &[u8],
+    rows: &[u64],
+    values: &[u64],
+    out: &mut [u8],
+) -> Result<usize, WireError>
     ensures { WritesText area.now rows.now values.now out.old result
         out.new }
 {
-    match text_size(area, rows, values) {
-        Measured::Refused(refusal) => Encoded::Refused(refusal),
-        Measured::Size(size) => {
-            if out.len() < size {
-                return Encoded::Refused(WireError::NoRoom(NoRoom {
-                    room: Room::Output,
-                    needed: size as u64,
-                    given: out.len() as u64,
-                }));
-            }
-            write_rows(area, rows, values, out);
-            Encoded::Written(size)
-        }
+    let size = text_size(area, rows, values)?;
+    if out.len() < size {
+        return Err(WireError::NoRoom(NoRoom {
+            room: Room::Output,
+            needed: size as u64,
+            given: out.len() as u64,
+        }));
     }
+    write_rows(area, rows, values, out);
+    Ok(size)
 }
