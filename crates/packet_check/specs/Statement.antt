@@ -4,10 +4,8 @@ use Rattle.words.specs.Statement.{Means}
 use Rattle.packet.specs.declared.Mode.{Mode}
 use Rattle.packet.specs.declared.PacketType.{PacketType}
 use Rattle.packet.specs.Paper.{type_number}
-use Rattle.packet_check.specs.declared.Validated.{Validated}
-use Rattle.packet_check.specs.declared.Measured.{Measured}
 use Rattle.packet_check.specs.Checks.{validating, sizing}
-use Rattle.packet_check.specs.Paper.{paper_validated, paper_measured}
+use Rattle.packet_check.specs.Paper.{Validated, Measured, paper_validated, paper_measured}
 
 abbrev pub Validates : Mode → PacketType → List ℕ → List ℕ → Validated → Type 0
 Validates mode type area table r = Means paper_validated (validating mode (type_number type) area table) r
