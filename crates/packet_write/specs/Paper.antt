@@ -1,10 +1,13 @@
--- What the enum means in document 01's terms. Assumes nothing.
-use Rattle.std.specs.Prelude.{[]}
+-- What the answer means in document 01's terms. Assumes nothing.
+use Rattle.std.specs.Prelude.{ℕ, [], Result, Ok, Err}
 use Rattle.words.specs.Answer.{Answer, accepted}
 use Rattle.packet.specs.Paper.{refusal}
-use Rattle.packet_write.specs.declared.Encoded.{Encoded}
-use Rattle.packet_write.specs.declared.Encoded.TheVariants.{Written, Refused}
+use Rattle.packet.specs.declared.PacketError.{PacketError}
+
+-- the bytes that were written, or a refusal
+abbrev pub Encoded : Type 0
+Encoded = Result ℕ PacketError
 
 abbrev pub paper : Encoded → Answer
-paper (Written size) = accepted size []
-paper (Refused error) = refusal error 0
+paper (Ok size) = accepted size []
+paper (Err error) = refusal error 0
