@@ -5,13 +5,13 @@ use mathlib.Core.List.{List}
 use Prim.Native.Nat.{ℕ}
 use Rattle.words.specs.Answer.{Answer}
 use Rattle.words.specs.Statement.{OneResult}
-use Rattle.words.proofs.Unique.{means_one}
+use Rattle.words.proofs.Unique.{means_one, equal_to_one}
 use Rattle.packet.specs.declared.Mode.{Mode}
 use Rattle.packet.specs.declared.PacketType.{PacketType}
 use Rattle.packet.proofs.Back.{told, told_back}
 use Rattle.std.specs.declared.result.Result.TheVariants.{Ok, Err}
 use Rattle.packet_check.specs.Paper.{Validated, Measured, paper_validated, paper_measured}
-use Rattle.packet_check.specs.Statement.{Validates, Measures}
+use Rattle.packet_check.specs.Statement.{Validates, Measures, TellsMeasured}
 
 abbrev validated_back : Answer → Validated
 validated_back = told (λ n. Ok tt) Err
@@ -32,3 +32,6 @@ validate_unique mode type area table = means_one paper_validated validated_back 
 
 pub encoded_size_unique : (mode : Mode) (type : PacketType) (area table : List ℕ) → OneResult (Measures mode type area table)
 encoded_size_unique mode type area table = means_one paper_measured measured_back_lem measured_undone _
+
+pub outcome_unique : (answer : Measured) → OneResult (TellsMeasured answer)
+outcome_unique answer = equal_to_one _

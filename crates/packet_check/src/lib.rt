@@ -7,13 +7,14 @@ ghost use Rattle.packet.specs.Paper.{type_number};
 ghost use Rattle.packet.specs.Entries.{room, is_too_large, taken};
 ghost use Rattle.packet_check.specs.Checks.{capped, first_too_large};
 ghost use Rattle.packet_check.specs.Stages.{outside_of, Small, size_by, taken_from};
-ghost use Rattle.packet_check.specs.Statement.{Validates, Measures};
+ghost use Rattle.packet_check.specs.Statement.{Validates, Measures, TellsMeasured};
 
 use packet::{
     ENTRY_WORDS, FIXED_HEADER_SIZE, HEADERS_SIZE, MAX_PART_COUNT, MAX_PART_SIZE, Mode,
     PART_HEADER_SIZE, PacketError, PacketType, has_variable_header, is_null, is_outside,
     is_retired,
 };
+use words::outcome::{Outcome, taken};
 
 // The largest number that a refusal carries in 32 bits.
 const MAX_CARRIED: u32 = 0xffff_ffff;
@@ -151,4 +152,15 @@ pub fn encoded_size(
 {
     validate(mode, packet_type, area, parts)?;
     Ok(size(packet_type, parts))
+}
+
+// A number of bytes or a refusal in document 01's number and values, for the writer too. It is no `From`: neither a
+// `Result` nor an `Outcome` is this crate's.
+pub fn outcome(answer: Result<usize, PacketError>) -> Outcome
+    ensures { TellsMeasured answer result }
+{
+    match answer {
+        Ok(size) => taken(size as u64, 0, 0, 0),
+        Err(error) => packet::refused(error, 0),
+    }
 }

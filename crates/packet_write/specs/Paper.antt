@@ -1,13 +1,10 @@
--- What the answer means in document 01's terms. Assumes nothing.
-use Rattle.std.specs.Prelude.{ℕ, [], Result, Ok, Err}
-use Rattle.words.specs.Answer.{Answer, accepted}
-use Rattle.packet.specs.Paper.{refusal}
-use Rattle.packet.specs.declared.PacketError.{PacketError}
+-- What the answer means in document 01's terms: a size is told as the checks tell it. Assumes nothing.
+use Rattle.words.specs.Answer.{Answer}
+use Rattle.packet_check.specs.Paper.{Measured, paper_measured}
 
 -- the bytes that were written, or a refusal
 abbrev pub Encoded : Type 0
-Encoded = Result ℕ PacketError
+Encoded = Measured
 
 abbrev pub paper : Encoded → Answer
-paper (Ok size) = accepted size []
-paper (Err error) = refusal error 0
+paper = paper_measured
