@@ -1,5 +1,5 @@
 -- `cablefinch_encode` meets its contract: its test of the type, and the library's answer and bytes. Assumes nothing.
-use mathlib.Core.Path.{◌≡◌, ◌∙◌, ap}
+use mathlib.Core.Path.{◌∙◌, ap}
 use mathlib.Core.List.{List}
 use Prim.Native.Nat.{ℕ, ◌≤◌}
 use lib.ListN.{length}
@@ -13,7 +13,6 @@ use Rattle.packet_write.specs.Writing.{writing}
 use Rattle.packet.specs.declared.Mode.{Mode}
 use Rattle.packet_mode.specs.Statement.{mode_of}
 use Rattle.face_parts.proofs.OutcomeLaws.{typed_refused, typed_known, number_known}
-use borrow.Author.Rules.{rules}
 use Rattle.face_packet_write.proofs.cablefinch_encode.Goals as goal
 
 pub returns-in_default : goal.returns-in_default

@@ -1,6 +1,5 @@
 -- `cablefinch_decode` meets its contract: the library's answer in words, and its table. Assumes nothing.
 use Rattle.words.proofs.PaperLaws.{told}
-use borrow.Author.Rules.{rules}
 use Rattle.face_packets.proofs.cablefinch_decode.Goals as goal
 
 pub returns : goal.returns

@@ -2,7 +2,6 @@
 use mathlib.Core.Path.{refl}
 use borrow.Author.Tests.{ne_eqb}
 use Rattle.face_parts.proofs.OutcomeLaws.{part_empty, part_outside, part_there}
-use borrow.Author.Rules.{rules}
 use Rattle.face_parts.proofs.cablefinch_part.Goals as goal
 
 pub returns-then-length-eq0 : goal.returns-then-length-eq0

@@ -1,12 +1,11 @@
 -- `cablefinch_validate` meets its contract: its test of the type, and the library's answer. Assumes nothing.
-use mathlib.Core.Path.{◌≡◌, ◌∙◌, ap}
+use mathlib.Core.Path.{◌∙◌, ap}
 use Prim.Native.Nat.{ℕ, ◌≤◌}
 use Rattle.words.proofs.PaperLaws.{told}
 use Rattle.packet.specs.Layout.{last_type}
 use Rattle.packet_check.specs.Checks.{validating}
 use Rattle.packet_mode.specs.Statement.{mode_of}
 use Rattle.face_parts.proofs.OutcomeLaws.{typed_refused, typed_known, number_known}
-use borrow.Author.Rules.{rules}
 use Rattle.face_parts.proofs.cablefinch_validate.Goals as goal
 
 pub returns-in_default : goal.returns-in_default
