@@ -1,14 +1,13 @@
--- An id written, or no room for it. Assumes nothing.
-use Prim.Native.Nat.{ℕ, ◌≤◌, ◌<◌}
+-- An id written. Assumes nothing.
+use Prim.Native.Nat.{ℕ, ◌≤◌}
 use mathlib.Core.Path.{◌≡◌, ◌∙◌}
 use mathlib.Core.List.{List, []}
 use lib.ListN.{length}
-use borrow.Author.Tests.{lt-ltb, le-ltb}
+use borrow.Author.Tests.{le-ltb}
 use Rattle.words.specs.Answer.{accepted}
 use Rattle.words.specs.Buffer.{fitted}
-use Rattle.words.specs.Paper.{no_room, outcome}
+use Rattle.words.specs.Paper.{outcome}
 use Rattle.words.specs.declared.outcome.Outcome.{Outcome}
-use Rattle.words.specs.declared.outcome.Room.TheVariants.{Output}
 use Rattle.words.proofs.BufferLaws.{fitted_fits}
 use Rattle.guid.specs.declared.Guid.{Guid}
 use Rattle.guid.specs.Guid.{wire_bytes}
@@ -16,9 +15,6 @@ use Rattle.guid.proofs.WireLaws.{length_wire}
 use Rattle.face_ids.specs.Statement.{WritesId}
 
 module _ (g : Guid) (before : List ℕ) where
-  pub id_short : {r : Outcome} → length before < 16 → r ≡ outcome (no_room Output 16 (length before)) → WritesId g before r before
-  id_short short p = let so = lt-ltb (length before) 16 short in (rw so p, rw so)
-
   pub id_fits : {r : Outcome} {after : List ℕ} → 16 ≤ length before → r ≡ outcome (accepted 16 []) → after ≡ fitted (wire_bytes g) before → WritesId g before r after
   id_fits fits p written =
       let so = le-ltb (length before) 16 fits in

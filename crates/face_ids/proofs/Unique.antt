@@ -6,7 +6,9 @@ use mathlib.Core.List.{List}
 use Rattle.words.specs.Statement.{OneResult}
 use Rattle.words.proofs.Unique.{equal_to_one}
 use Rattle.guid.specs.Guid.{guid_of, guid_of_halves}
-use Rattle.guid_text.specs.declared.Parsed.{Parsed}
+use Rattle.std.specs.declared.result.Result.{Result}
+use Rattle.guid.specs.declared.Guid.{Guid}
+use Rattle.guid_text.specs.declared.BadGuid.{BadGuid}
 use Rattle.guid_text.specs.Paper.{parsed_paper}
 use Rattle.guid_text.proofs.Unique.{parse_unique}
 use Rattle.words.specs.Paper.{outcome}
@@ -25,7 +27,7 @@ cablefinch_guid_print_unique id before = equal_to_two _ _
 
 pub cablefinch_guid_parse_unique : (text : List ℕ) → OneResult (Parses text)
 cablefinch_guid_parse_unique text r r' (answer, parsed, tells) (answer', parsed', tells') =
-    tells ∙ ap (λ (a : Parsed). outcome (parsed_paper a)) (parse_unique text answer answer' parsed parsed') ∙ sym tells'
+    tells ∙ ap (λ (a : Result Guid BadGuid). outcome (parsed_paper a)) (parse_unique text answer answer' parsed parsed') ∙ sym tells'
 
 pub cablefinch_guid_parts_unique : (id : List ℕ) → OneResult (GivesParts id)
 cablefinch_guid_parts_unique id = equal_to_one _

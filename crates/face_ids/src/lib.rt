@@ -9,8 +9,8 @@ ghost use Rattle.guid_text.specs.Paper.{printed_paper, parsed_paper};
 ghost use Rattle.guid_text.specs.Reason.{reason_number};
 ghost use Rattle.face_ids.specs.Statement.{WritesId, Prints, Parses, GivesParts, GivesHalves, TellsNull};
 
-use guid::Guid;
-use guid_text::{Parsed, Printed, Reason};
+use guid::{Guid, Halves};
+use guid_text::{BadGuid, Reason};
 use words::outcome::{ACCEPTED, NoRoom, Outcome, Room, no_room, refusal, taken};
 
 // A GUID in words: its four words in wire order.
@@ -43,29 +43,29 @@ fn reason_number(reason: Reason) -> u64
     }
 }
 
-// What `print` answered, in words.
-fn printed_outcome(answer: Printed) -> Outcome
+// What `print` answered, in words. No `From`, here and below: neither type is this crate's.
+fn printed_outcome(answer: Result<usize, NoRoom>) -> Outcome
     ensures { Tells (printed_paper answer) result }
 {
     match answer {
-        Printed::Written(count) => taken(count as u64, 0, 0, 0),
-        Printed::Refused(short) => no_room(short),
+        Ok(count) => taken(count as u64, 0, 0, 0),
+        Err(short) => no_room(short),
     }
 }
 
 // What `parse` answered, in words.
-fn parsed_outcome(answer: Parsed) -> Outcome
+fn parsed_outcome(answer: Result<Guid, BadGuid>) -> Outcome
     ensures { Tells (parsed_paper answer) result }
 {
     match answer {
-        Parsed::Bad { position, reason } => refusal(
+        Err(BadGuid { position, reason }) => refusal(
             16,
             0,
             position as u64,
             reason_number(reason),
             0,
         ),
-        Parsed::Read(id) => words_outcome(id),
+        Ok(id) => words_outcome(id),
     }
 }
 
@@ -137,8 +137,8 @@ pub extern "C" fn cablefinch_guid_halves(id: &[u8]) -> Outcome
     ensures { GivesHalves id.now result }
 {
     let guid = Guid::from_bytes(id, 0);
-    let halves = guid.halves();
-    taken(0, halves.0, halves.1, 0)
+    let Halves { first, second } = guid.halves();
+    taken(0, first, second, 0)
 }
 
 // Whether all sixteen bytes are 0.

@@ -6,19 +6,17 @@ ghost use Rattle.yson.specs.Paper.{paper};
 ghost use Rattle.face_notes.specs.Statement.{ChecksYson, ListsYson};
 
 use words::outcome::{Outcome, no_room, refusal, taken};
-use yson::{Fault, Listed};
+use yson::{Fault, YsonError};
 
-// The answer in words.
-fn listed_outcome(answer: Listed) -> Outcome
+// The answer in words. No `From`: neither type is this crate's.
+fn listed_outcome(answer: Result<usize, YsonError>) -> Outcome
     ensures { Tells (paper answer) result }
 {
     match answer {
-        Listed::Items(items) => taken(0, items as u64, 0, 0),
-        Listed::Broken(fault) => match fault {
-            Fault::BadYson(place) => refusal(20, 0, place as u64, 0, 0),
-            Fault::TooDeep(place) => refusal(21, 0, place as u64, 0, 0),
-        },
-        Listed::Short(short) => no_room(short),
+        Ok(items) => taken(0, items as u64, 0, 0),
+        Err(YsonError::Broken(Fault::BadYson(place))) => refusal(20, 0, place as u64, 0, 0),
+        Err(YsonError::Broken(Fault::TooDeep(place))) => refusal(21, 0, place as u64, 0, 0),
+        Err(YsonError::Short(short)) => no_room(short),
     }
 }
 

@@ -4,22 +4,15 @@ use mathlib.Core.List.{List, [], ◌++◌, append_assoc, append-nil}
 use Prim.Native.Nat.{ℕ, ◌+◌, ◌*◌, ◌/◌, ◌%◌, ◌^◌, ◌<◌}
 use native.Mathlib.Nat.{add-zero, mod-eq_of_lt}
 use native.Mathlib.Omega.{arith}
-use lib.Dec.{eqb}
 use lib.ListN.{length, length-append}
-use borrow.Author.Tests.{eq-eqb}
-use Rattle.numerals.proofs.Cases.{asked_twice}
 use Rattle.words.specs.Word.{word, bytes_of, Bytes}
 use Rattle.words.proofs.WordLaws.{word_lt, word_split, word_bytes_of, word_behind, length_bytes_of, bytes_of_split}
 use Rattle.guid.specs.declared.Guid.{Guid}
-use Rattle.guid.specs.Guid.{guid_of, Fitting, wire_bytes, guid_at, first_half, second_half, guid_of_halves, is_null}
+use Rattle.guid.specs.Guid.{guid_of, Fitting, wire_bytes, guid_at, first_half, second_half, guid_of_halves}
 
 pub length_wire : (g : Guid) → length (wire_bytes g) ≡ 16
 unfolding wire_bytes
 length_wire g = simp (length-append, length_bytes_of)
-
--- three words are 0, and the last one decides
-pub null_last : (g : Guid) → g.w0 ≡ 0 → g.w1 ≡ 0 → g.w2 ≡ 0 → eqb g.w3 0 ≡ is_null g
-null_last g p q r = rw (eq-eqb g.w0 0 p, eq-eqb g.w1 0 q, eq-eqb g.w2 0 r) (asked_twice (eqb g.w3 0))
 
 -- a word whose bytes stand behind p
 word_in : (p t : List ℕ) (n at : ℕ) → length p ≡ at → word 4 (p ++ (bytes_of 4 n ++ t)) at ≡ n % 256 ^ 4

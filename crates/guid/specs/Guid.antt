@@ -35,7 +35,7 @@ abbrev pub second_half : Guid → ℕ
 second_half g = word 8 (wire_bytes g) 8
 
 abbrev pub halves_of : Guid → Halves
-halves_of g = record { 0 = first_half g; 1 = second_half g }
+halves_of g = record { first = first_half g; second = second_half g }
 
 -- the GUID of two halves
 abbrev pub guid_of_halves : ℕ → ℕ → Guid

@@ -25,7 +25,10 @@ pub type FourWords = [u32; 4];
 
 // Bytes 0 to 7 and bytes 8 to 15, as `TGuid` carries them.
 #[derive(Clone, Copy)]
-pub struct Halves(pub u64, pub u64);
+pub struct Halves {
+    pub first: u64,
+    pub second: u64,
+}
 
 impl Guid {
     // The GUID of four words in wire order.
@@ -43,6 +46,7 @@ impl Guid {
     }
 
     // The GUID of two halves.
+    #[tactic(auto, using(crate::proofs::WireLaws::words_of_halves))]
     pub fn from_halves(first: u64, second: u64) -> Guid
         ensures { MadeOfHalves first second result }
     {
@@ -58,26 +62,17 @@ impl Guid {
     pub fn halves(self) -> Halves
         ensures { GivesHalves self result }
     {
-        Halves(
-            (self.w0 as u64) + 0x1_0000_0000 * (self.w1 as u64),
-            (self.w2 as u64) + 0x1_0000_0000 * (self.w3 as u64),
-        )
+        Halves {
+            first: (self.w0 as u64) + 0x1_0000_0000 * (self.w1 as u64),
+            second: (self.w2 as u64) + 0x1_0000_0000 * (self.w3 as u64),
+        }
     }
 
     // Whether all sixteen bytes are 0.
     pub fn is_null(self) -> bool
         ensures { TellsNull self result }
     {
-        if self.w0 != 0 {
-            return false;
-        }
-        if self.w1 != 0 {
-            return false;
-        }
-        if self.w2 != 0 {
-            return false;
-        }
-        self.w3 == 0
+        self.w0 == 0 && self.w1 == 0 && self.w2 == 0 && self.w3 == 0
     }
 
     // The GUID whose sixteen bytes begin at `at`. A byte past the end counts as 0.

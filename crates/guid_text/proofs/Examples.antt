@@ -6,9 +6,12 @@ use Prim.Native.Nat.{ℕ}
 use Rattle.words.specs.Answer.{refuse}
 use Rattle.words.specs.Text.{text, digit, spelled, digit_of}
 use Rattle.places.specs.Machine.{run}
+use Rattle.guid_text.specs.declared.Reason.{Reason}
 use Rattle.guid_text.specs.declared.Reason.TheVariants.{Empty, TooLong, NotHex, FieldCount}
-use Rattle.guid_text.specs.declared.Parsed.{Parsed}
-use Rattle.guid_text.specs.declared.Parsed.TheVariants.{Read, Bad}
+use Rattle.guid_text.specs.declared.BadGuid.{BadGuid}
+use Rattle.guid.specs.declared.Guid.{Guid}
+use Rattle.std.specs.declared.result.Result.{Result}
+use Rattle.std.specs.declared.result.Result.TheVariants.{Ok, Err}
 use Rattle.guid.specs.Guid.{guid_of}
 use Rattle.guid_text.specs.Split.{fields}
 use Rattle.guid_text.specs.Text.{text_of, printing}
@@ -19,7 +22,7 @@ use Rattle.guid_text.proofs.ReasonLaws.{ending_of, parses}
 
 infix 80 ◌gives◌
 pub data Example : Type 0 where
-  ◌gives◌ : List ℕ → Parsed → Example
+  ◌gives◌ : List ℕ → Result Guid BadGuid → Example
 
 -- each text of a table is answered so
 abbrev pub AllParse : List Example → Type 0
@@ -34,33 +37,36 @@ all_parse : (examples : List Example) → AllRun examples → AllParse examples
 all_parse [] runs = tt
 all_parse ((s gives r) ∷ examples) runs = (parses s r runs.0, all_parse examples runs.1)
 
+abbrev bad : ℕ → Reason → BadGuid
+bad p why = record { position = p; reason = why }
+
 -- both ends, a field's length, and a byte that is none
 abbrev pub wrong : List Example
 wrong =
-    [] gives Bad 0 Empty
-    ∷ text "-" gives Bad 0 Empty
-    ∷ text "1" gives Bad 1 FieldCount
-    ∷ text "1-" gives Bad 2 Empty
-    ∷ text "g" gives Bad 0 NotHex
-    ∷ text "1g-" gives Bad 1 NotHex
-    ∷ text "1-+2-3-4" gives Bad 2 NotHex
-    ∷ text "1--2" gives Bad 2 Empty
-    ∷ text "1-2-3-" gives Bad 6 Empty
-    ∷ text "1-2-3-4-" gives Bad 7 FieldCount
-    ∷ (text "1-2-3-4" ++ 10 ∷ []) gives Bad 7 NotHex
-    ∷ text "1-2-3-123456789" gives Bad 14 TooLong
-    ∷ text "12345678" gives Bad 8 FieldCount
-    ∷ text "123456789" gives Bad 8 TooLong
-    ∷ text "12345678g" gives Bad 8 TooLong
-    ∷ text "12345678+" gives Bad 8 TooLong
-    ∷ text "12345678-" gives Bad 9 Empty
-    ∷ text "1-2-3-12345678-" gives Bad 14 FieldCount
-    ∷ text "+1-2-3-4" gives Bad 0 NotHex
-    ∷ text "0-0-0" gives Bad 5 FieldCount
-    ∷ text "1-2-3--" gives Bad 6 Empty
-    ∷ text "1-2-" gives Bad 4 Empty
-    ∷ text "1-2-3-4-5" gives Bad 7 FieldCount
-    ∷ text "1-2-3-4--" gives Bad 7 FieldCount
+    [] gives Err (bad 0 Empty)
+    ∷ text "-" gives Err (bad 0 Empty)
+    ∷ text "1" gives Err (bad 1 FieldCount)
+    ∷ text "1-" gives Err (bad 2 Empty)
+    ∷ text "g" gives Err (bad 0 NotHex)
+    ∷ text "1g-" gives Err (bad 1 NotHex)
+    ∷ text "1-+2-3-4" gives Err (bad 2 NotHex)
+    ∷ text "1--2" gives Err (bad 2 Empty)
+    ∷ text "1-2-3-" gives Err (bad 6 Empty)
+    ∷ text "1-2-3-4-" gives Err (bad 7 FieldCount)
+    ∷ (text "1-2-3-4" ++ 10 ∷ []) gives Err (bad 7 NotHex)
+    ∷ text "1-2-3-123456789" gives Err (bad 14 TooLong)
+    ∷ text "12345678" gives Err (bad 8 FieldCount)
+    ∷ text "123456789" gives Err (bad 8 TooLong)
+    ∷ text "12345678g" gives Err (bad 8 TooLong)
+    ∷ text "12345678+" gives Err (bad 8 TooLong)
+    ∷ text "12345678-" gives Err (bad 9 Empty)
+    ∷ text "1-2-3-12345678-" gives Err (bad 14 FieldCount)
+    ∷ text "+1-2-3-4" gives Err (bad 0 NotHex)
+    ∷ text "0-0-0" gives Err (bad 5 FieldCount)
+    ∷ text "1-2-3--" gives Err (bad 6 Empty)
+    ∷ text "1-2-" gives Err (bad 4 Empty)
+    ∷ text "1-2-3-4-5" gives Err (bad 7 FieldCount)
+    ∷ text "1-2-3-4--" gives Err (bad 7 FieldCount)
     ∷ []
 
 pub wrong_places : AllParse wrong
@@ -68,9 +74,9 @@ unfolding run digit_of
 wrong_places =
     all_parse wrong (refl, (refl, (refl, (refl, (refl, (refl, (refl, (refl, (refl, (refl, (refl, (refl, (refl, (refl, (refl, (refl, (refl, (refl, (refl, (refl, (refl, (refl, (refl, (refl, tt))))))))))))))))))))))))
 
-pub any_form : Parses (text "fEDcba98-0-0-00000001") (Read (guid_of 1 0 0 0xfedc_ba98))
+pub any_form : Parses (text "fEDcba98-0-0-00000001") (Ok (guid_of 1 0 0 0xfedc_ba98))
 unfolding run digit_of
-any_form = parses _ (Read (guid_of 1 0 0 0xfedc_ba98)) refl
+any_form = parses _ (Ok (guid_of 1 0 0 0xfedc_ba98)) refl
 
 pub plain_form : normal (text "fEDcba98-0-0-00000001") ≡ text_of (guid_of 1 0 0 0xfedc_ba98)
 unfolding text_of spelled digit fields shorn lower

@@ -1,10 +1,9 @@
 -- Any text of a GUID is, in its plain form, the text that the GUID prints. Assumes nothing.
 use mathlib.Core.Path.{◌≡◌, sym, ◌∙◌, ap}
-use mathlib.Core.List.{List, map}
+use mathlib.Core.List.{List}
 use Prim.Native.Nat.{ℕ}
 use Rattle.numerals.specs.Statement.{hex}
 use Rattle.guid.specs.declared.Guid.{Guid}
-use Rattle.guid_text.specs.Fields.{between}
 use Rattle.guid_text.specs.Form.{IsField, IsText}
 use Rattle.guid_text.specs.Normal.{shorn, normal}
 use Rattle.guid_text.specs.Text.{text_of}

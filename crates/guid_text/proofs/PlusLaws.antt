@@ -3,7 +3,7 @@
 use mathlib.Core.Path.{◌≡◌, refl, sym, ◌∙◌, ap, subst}
 use mathlib.Core.List.{List, [], ◌∷◌, ◌++◌, map, map-append}
 use mathlib.Core.Logic.{◌⊎◌, inl, inr, ⊎_elim}
-use Prim.Native.Nat.{ℕ, zero, suc, ◌+◌, ◌<◌, ◌≤◌}
+use Prim.Native.Nat.{ℕ, zero, suc, ◌+◌, ◌<◌}
 use native.Mathlib.Omega.{arith}
 use borrow.Author.Tests.{ne_eqb}
 use lib.ListN.{length, get_or, take, drop, take-append-drop, drop_of_length-le}
@@ -18,9 +18,8 @@ use Rattle.guid.specs.declared.Guid.{Guid}
 use Rattle.guid_text.specs.declared.Reason.{Reason}
 use Rattle.guid_text.specs.declared.Reason.TheVariants.{TooLong, NotHex}
 use Rattle.guid_text.specs.Digits.{Digits, value}
-use Rattle.guid_text.specs.Fields.{dash, between}
 use Rattle.guid_text.specs.Split.{fields}
-use Rattle.guid_text.specs.Form.{IsField, FourFields, IsText}
+use Rattle.guid_text.specs.Form.{IsField, IsText}
 use Rattle.guid_text.specs.WithPlus.{plus, IsFieldBefore, bare, led, IsTextBefore, Plusless}
 use Rattle.guid_text.proofs.ValueLaws.{digit_byte, no_plus}
 use Rattle.guid_text.proofs.FieldLaws.{Dashless, digits_dashless, fields_four}

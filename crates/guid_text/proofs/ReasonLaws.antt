@@ -4,7 +4,7 @@ use mathlib.Core.Path.{◌≡◌, refl, sym, ◌∙◌, ap, subst}
 use mathlib.Core.Bool.{Bool, true, false}
 use mathlib.Core.List.{List, [], ◌∷◌, ◌++◌, append_assoc, reverse_aux}
 use mathlib.Core.Logic.{◌⊎◌, inl, inr, ⊎_elim}
-use Prim.Native.Nat.{ℕ, suc, ◌+◌, ◌<◌, ◌≤◌}
+use Prim.Native.Nat.{ℕ, ◌+◌, ◌<◌, ◌≤◌}
 use native.Mathlib.Omega.{arith}
 use borrow.Author.Tests.{lt-ltb, le-ltb, eq-eqb, ne_eqb}
 use lib.ListN.{length, get_or, take, get_or-eq_default}
@@ -21,11 +21,12 @@ use Rattle.places.proofs.MachineLaws.{run_stops, stops_in_place}
 use Rattle.guid.specs.declared.Guid.{Guid}
 use Rattle.guid_text.specs.declared.Reason.{Reason}
 use Rattle.guid_text.specs.declared.Reason.TheVariants.{Empty, TooLong, NotHex, FieldCount}
-use Rattle.guid_text.specs.declared.Parsed.{Parsed}
-use Rattle.guid_text.specs.declared.Parsed.TheVariants.{Read, Bad}
+use Rattle.guid_text.specs.declared.BadGuid.{BadGuid}
+use Rattle.std.specs.declared.result.Result.{Result}
+use Rattle.std.specs.declared.result.Result.TheVariants.{Ok, Err}
 use Rattle.guid_text.specs.Fields.{dash}
 use Rattle.guid_text.specs.Split.{fields, last_of}
-use Rattle.guid_text.specs.Form.{IsText, Accepted}
+use Rattle.guid_text.specs.Form.{Accepted}
 use Rattle.guid_text.specs.Reason.{field_number, bytes_before, reasons}
 use Rattle.guid_text.specs.Statement.{Parses}
 use Rattle.guid_text.proofs.FieldLaws.{digits_dashless, fields_last, fields_dash}
@@ -162,33 +163,40 @@ pub walk_place : (s : List ℕ) (p : ℕ) (r : Reason) → run walk start 0 s �
 walk_place = stops_in_place walk start Accepted walk_takes walk_alive
 
 -- what the machine says is what is promised, and nothing else is
-abbrev pub ending_of : Parsed → Ending Guid Reason
-ending_of (Read g) = read g
-ending_of (Bad p reason) = stopped p reason
+abbrev pub ending_of : Result Guid BadGuid → Ending Guid Reason
+ending_of (Ok g) = read g
+ending_of (Err bad) = stopped bad.position bad.reason
 
-pub parses : (s : List ℕ) (r : Parsed) → run walk start 0 s ≡ ending_of r → Parses s r
-parses s (Read g) e = read_text s g e
-parses s (Bad p reason) e = (walk_place s p reason e, cause_decides s p reason (walk_cause s p reason e))
+pub parses : (s : List ℕ) (r : Result Guid BadGuid) → run walk start 0 s ≡ ending_of r → Parses s r
+parses s (Ok g) e = read_text s g e
+parses s (Err bad) e =
+    let p = bad.position in
+    let reason = bad.reason in
+    (walk_place s p reason e, cause_decides s p reason (walk_cause s p reason e))
 
-abbrev parsed_of : Ending Guid Reason → Parsed
-parsed_of (read g) = Read g
-parsed_of (stopped p reason) = Bad p reason
+abbrev parsed_of : Ending Guid Reason → Result Guid BadGuid
+parsed_of (read g) = Ok g
+parsed_of (stopped p reason) = Err record { position = p; reason = reason }
 
 parsed_of_lem : (o : Ending Guid Reason) → ending_of (parsed_of o) ≡ o
 parsed_of_lem (read g) = refl
 parsed_of_lem (stopped p reason) = refl
 
-pub same_parsed : (s : List ℕ) (r r' : Parsed) → Parses s r → Parses s r' → r ≡ r'
-same_parsed s (Read g) (Read g') t t' = let e : ◌≡◌ {A = Ending Guid Reason} (read g) (read g') = sym (text_read s g t) ∙ text_read s g' t' in cc
-same_parsed s (Read g) (Bad p reason) t w = absurd (w.0.refused (g, t))
-same_parsed s (Bad p reason) (Read g) w t = absurd (w.0.refused (g, t))
-same_parsed s (Bad p reason) (Bad p' reason') w w' =
+pub same_parsed : (s : List ℕ) (r r' : Result Guid BadGuid) → Parses s r → Parses s r' → r ≡ r'
+same_parsed s (Ok g) (Ok g') t t' = let e : ◌≡◌ {A = Ending Guid Reason} (read g) (read g') = sym (text_read s g t) ∙ text_read s g' t' in cc
+same_parsed s (Ok g) (Err bad) t w = absurd (w.0.refused (g, t))
+same_parsed s (Err bad) (Ok g) w t = absurd (w.0.refused (g, t))
+same_parsed s (Err bad) (Err bad') w w' =
+    let p = bad.position in
+    let p' = bad'.position in
+    let reason = bad.reason in
+    let reason' = bad'.reason in
     let there : p ≡ p' = place_unique Accepted s p p' w.0 w'.0 in
     let why : reason ≡ reason' = decides_one (reasons s p) reason reason' w.1 (subst (λ (k : ℕ). Decides (reasons s k) reason') (sym there) w'.1) in
-    cc
+    λ i. Err record { position = there i; reason = why i }
 
 -- so what is promised is what the machine says
-pub parses_run : (s : List ℕ) (r : Parsed) → Parses s r → run walk start 0 s ≡ ending_of r
+pub parses_run : (s : List ℕ) (r : Result Guid BadGuid) → Parses s r → run walk start 0 s ≡ ending_of r
 parses_run s r told =
     let o = run walk start 0 s in
     sym (parsed_of_lem o) ∙ ap ending_of (same_parsed s (parsed_of o) r (parses s (parsed_of o) (sym (parsed_of_lem o))) told)

@@ -2,7 +2,6 @@
 use mathlib.Core.Path.{◌≡◌, refl, sym, ◌∙◌, ap}
 use mathlib.Core.List.{List, []}
 use Prim.Native.Nat.{ℕ, ◌^◌, ◌<◌}
-use native.Mathlib.Omega.{arith}
 use lib.ListN.{length, take, drop}
 use lib.Seq.{take_at}
 use Rattle.words.specs.Answer.{Answer, accepted, afterwards}
@@ -14,7 +13,7 @@ use Rattle.numerals.specs.Statement.{hex}
 use Rattle.numerals.proofs.SpelledLaws.{length_spelled_most, length_spelled_least}
 use Rattle.places.specs.Machine.{Ending, read}
 use Rattle.guid.specs.declared.Guid.{Guid}
-use Rattle.guid_text.specs.declared.Printed.TheVariants.{Written}
+use Rattle.std.specs.declared.result.Result.TheVariants.{Ok}
 use Rattle.guid_text.specs.declared.Reason.{Reason}
 use Rattle.guid.specs.Guid.{Fitting}
 use Rattle.guid_text.specs.Form.{IsField, IsText}
@@ -24,7 +23,7 @@ use Rattle.guid_text.proofs.ValueLaws.{digits_spelled, value_spelled, value_fits
 use Rattle.guid_text.proofs.Exactly.{text_read}
 
 -- what `print` wrote is the text
-pub printed_text : (g : Guid) (before : List ℕ) (n : ℕ) (after : List ℕ) → Prints g before (Written n) after → take n after ≡ text_of g
+pub printed_text : (g : Guid) (before : List ℕ) (n : ℕ) (after : List ℕ) → Prints g before (Ok n) after → take n after ≡ text_of g
 printed_text g before n after told =
     let wrote : after ≡ over (text_of g) before = told.1 ∙ ap (λ (a : Answer). afterwards a (text_of g) before) (sym told.0) in
     let count : length (text_of g) ≡ n = pick_case (length before <? length (text_of g)) _ _ (λ (a : Answer). accepted n [] ≡ a → length (text_of g) ≡ n) (λ _ e. absurd (refused_not_accepted _ _ _ n [] (sym e))) (λ _ e. cc) told.0 in

@@ -1,12 +1,13 @@
 -- Laws of a GUID's text: its length, its fields with their dashes, and how they are written. Assumes nothing.
 use mathlib.Core.Path.{◌≡◌, sym}
 use mathlib.Core.List.{List, [], ◌∷◌, ◌++◌, append_assoc}
-use Prim.Native.Nat.{ℕ, suc, ◌+◌, ◌<◌}
+use Prim.Native.Nat.{ℕ, suc, ◌+◌, ◌<◌, ◌≤◌}
 use native.Mathlib.Omega.{arith}
 use lib.ListN.{length, get_or, set, drop, length-append}
 use lib.Seq.{drop-cons, append_snoc, set-append_seam}
 use Rattle.words.specs.Buffer.{over}
 use Rattle.numerals.specs.Statement.{hex}
+use Rattle.numerals.proofs.SpelledLaws.{length_spelled_most}
 use Rattle.guid.specs.declared.Guid.{Guid}
 use Rattle.guid_text.specs.Fields.{dash}
 use Rattle.guid_text.specs.Stages.{dashed}
@@ -23,6 +24,10 @@ dash_stored ws xs now count e wrote room =
 -- the whole text: its length, and its fields with their dashes
 pub length_dashed : (w : ℕ) → length (dashed w) ≡ length (hex w) + 1
 length_dashed w = length-append (hex w) (dash ∷ [])
+
+-- a field without its dash
+pub field_short : (w : ℕ) → length (hex w) ≤ 8
+field_short w = length_spelled_most 16 8 w
 
 module _ (g : Guid) where
   pub length_text : length (text_of g) ≡ length (hex g.w3) + 1 + (length (hex g.w2) + 1) + (length (hex g.w1) + 1) + length (hex g.w0)

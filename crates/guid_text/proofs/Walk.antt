@@ -1,6 +1,6 @@
 -- The reader as a machine: its state is what `parse` holds. Assumes nothing.
 use Prim.Native.Nat.{ℕ, ◌+◌, ◌-◌, ◌*◌}
-use mathlib.Core.List.{List, [], ◌∷◌}
+use mathlib.Core.List.{[], ◌∷◌}
 use Rattle.words.specs.Decide.{pick, decide, ◌⇒◌, ◌<?◌, ◌=?◌}
 use Rattle.places.specs.Machine.{Move, on, off, Machine}
 use Rattle.guid.specs.declared.Guid.{Guid}

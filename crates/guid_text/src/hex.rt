@@ -8,6 +8,7 @@ ghost use Rattle.guid_text.specs.Stages.{dashed};
 use numerals::write_hex;
 
 // The word in hex over the front of `out`, which has the room, and how many bytes that is.
+#[tactic(auto, using(words::proofs::BufferLaws::fitted_fits))]
 pub(crate) fn put(out: &mut [u8], word: u32) -> usize
     requires { length (hex word) ≤ length out.old }
     ensures { (result ≡ length (hex word)) × (out.new ≡ over (hex word) out.old) }

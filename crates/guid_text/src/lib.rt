@@ -2,7 +2,7 @@
 // and read. A text that is refused says where it goes wrong and why.
 #![tactic(auto)]
 
-ghost use Rattle.std.specs.Prelude.{◌≡◌};
+ghost use Rattle.std.specs.Prelude.{◌≡◌, Err};
 ghost use Rattle.guid_text.specs.Statement.{SizesText, Prints, Parses};
 
 use guid::Guid;
@@ -10,13 +10,6 @@ use numerals::{digit_value, hex_size};
 use words::outcome::{NoRoom, Room};
 
 mod hex;
-
-// What `print` answers: how many bytes it wrote, or 17.
-#[derive(Clone, Copy)]
-pub enum Printed {
-    Written(usize),
-    Refused(NoRoom),
-}
 
 // Why a text is refused: a field has no byte, a field has more than eight, a byte is no hex digit, or the fields are
 // not four.
@@ -28,27 +21,28 @@ pub enum Reason {
     FieldCount,
 }
 
-// What `parse` answers: the GUID, or 16 with the place where the text goes wrong and why.
+// 16: the place where a text goes wrong, and why.
 #[derive(Clone, Copy)]
-pub enum Parsed {
-    Read(Guid),
-    Bad { position: usize, reason: Reason },
+pub struct BadGuid {
+    pub position: usize,
+    pub reason: Reason,
 }
 
 // How many bytes the text has.
+#[tactic(auto, using(crate::proofs::TextLaws::field_short, crate::proofs::TextLaws::length_text))]
 pub fn text_size(id: Guid) -> usize
     ensures { SizesText id result }
 {
     hex_size(id.w3) + hex_size(id.w2) + hex_size(id.w1) + hex_size(id.w0) + 3
 }
 
-// The text, over the front of `out`: Rust's `Display`.
-pub fn print(id: Guid, out: &mut [u8]) -> Printed
+// The text, over the front of `out`, and how many bytes that is, or 17: Rust's `Display`.
+pub fn print(id: Guid, out: &mut [u8]) -> Result<usize, NoRoom>
     ensures { Prints id out.old result out.new }
 {
     let needed = text_size(id);
     if out.len() < needed {
-        return Printed::Refused(NoRoom {
+        return Err(NoRoom {
             room: Room::Output,
             needed: needed as u64,
             given: out.len() as u64,
@@ -58,13 +52,13 @@ pub fn print(id: Guid, out: &mut [u8]) -> Printed
     let third = second + hex::put_dashed(&mut out[second..], id.w2);
     let last = third + hex::put_dashed(&mut out[third..], id.w1);
     hex::put(&mut out[last..], id.w0);
-    Printed::Written(needed)
+    Ok(needed)
 }
 
 // The GUID that a text of four fields between dashes spells, or where the text goes wrong and why: Rust's
 // `from_str`, without its plus. `left` dashes are still to come, and this field began at `start`.
 // The eighth digit has a call of its own: called once, `digit_value` is inlined and is a jump for each digit.
-pub fn parse(text: &[u8]) -> Parsed
+pub fn parse(text: &[u8]) -> Result<Guid, BadGuid>
     ensures { Parses text.now result }
 {
     let mut w0: u32 = 0;
@@ -118,12 +112,12 @@ pub fn parse(text: &[u8]) -> Parsed
     if 0 < left {
         return bad(at, Reason::FieldCount);
     }
-    Parsed::Read(Guid { w0, w1, w2, w3 })
+    Ok(Guid { w0, w1, w2, w3 })
 }
 
-// 16: the text goes wrong at this place, and why.
-fn bad(position: usize, reason: Reason) -> Parsed
-    ensures { result ≡ Parsed.Bad position reason }
+// The refusal of a text, of this place and for this reason.
+fn bad(position: usize, reason: Reason) -> Result<Guid, BadGuid>
+    ensures { result ≡ Err record { position = position; reason = reason } }
 {
-    Parsed::Bad { position, reason }
+    Err(BadGuid { position, reason })
 }

@@ -13,44 +13,45 @@ use Rattle.yson_grammar.specs.Items.{outer}
 use Rattle.yson_grammar.proofs.Place.{bad_there, deep_there}
 use Rattle.yson.specs.Reading.{good, bad, deep, count, listing}
 use Rattle.yson.specs.Statement.{Checks, Lists}
+use Rattle.yson.specs.declared.Read.{Read}
 use Rattle.yson.specs.Stages.{ReadsWhole, Ready, Fills}
 use Rattle.yson.specs.declared.Fault.{Fault}
 use Rattle.yson.specs.declared.Fault.TheVariants.{BadYson, TooDeep}
-use Rattle.yson.specs.declared.Read.TheVariants.{Ended, Refused}
-use Rattle.yson.specs.declared.Listed.TheVariants.{Items, Broken, Short}
+use Rattle.std.specs.declared.result.Result.TheVariants.{Ok, Err}
+use Rattle.yson.specs.declared.YsonError.TheVariants.{Broken, Short}
 use Rattle.yson.proofs.FillLaws.{ready, filled_words}
 
 module _ (s : List ℕ) where
-  pub checks_broken : (q : Fault) → ReadsWhole s (Refused q) → Checks s (Broken q)
+  pub checks_broken : (q : Fault) → ReadsWhole s (Err q) → Checks s (Err (Broken q))
   checks_broken (BadYson p) e = (bad p (bad_there s p (sym e)), refl)
   checks_broken (TooDeep p) e = (deep p (deep_there s p (sym e)), refl)
 
   counted : (d : Yson s) (n : ℕ) → length (outer d) ≡ 4 * n → n ≡ count d
   counted d n sized = omega (arith, sized)
 
-  pub checks_items : (e b n : ℕ) → ReadsWhole s (Ended e b n) → Checks s (Items n)
-  checks_items e b n r = (good r.0, ap (λ (k : ℕ). accepted 0 (k ∷ [])) (counted r.0 n r.2))
+  pub checks_items : (x : Read) → ReadsWhole s (Ok x) → Checks s (Ok x.items)
+  checks_items x r = (good r.0, ap (λ (k : ℕ). accepted 0 (k ∷ [])) (counted r.0 x.items r.2))
 
   module _ (before : List ℕ) where
-    pub lists_broken : (q : Fault) → ReadsWhole s (Refused q) → Lists s before (Broken q) before
+    pub lists_broken : (q : Fault) → ReadsWhole s (Err q) → Lists s before (Err (Broken q)) before
     lists_broken (BadYson p) e = (bad p (bad_there s p (sym e)), refl, refl)
     lists_broken (TooDeep p) e = (deep p (deep_there s p (sym e)), refl, refl)
 
-    module _ (e b n : ℕ) (r : ReadsWhole s (Ended e b n)) where
-      pub lists_short : length before / 4 < n → Lists s before (Short (record { room = ItemRoom; needed = n; given = length before / 4 })) before
+    module _ (x : Read) (r : ReadsWhole s (Ok x)) where
+      pub lists_short : length before / 4 < x.items → Lists s before (Err (Short record { room = ItemRoom; needed = x.items; given = length before / 4 })) before
       lists_short short =
-          let is : n ≡ count r.0 = counted r.0 n r.2 in
-          let answer : listing (good r.0) (length before / 4) ≡ no_room ItemRoom n (length before / 4) = rw (sym is, lt-ltb (length before / 4) n short) in
+          let is : x.items ≡ count r.0 = counted r.0 x.items r.2 in
+          let answer : listing (good r.0) (length before / 4) ≡ no_room ItemRoom x.items (length before / 4) = rw (sym is, lt-ltb (length before / 4) x.items short) in
           (good r.0, sym answer, sym (ap (λ (a : Answer). afterwards a (outer r.0) before) answer))
 
-      pub lists_ready : n ≤ length before / 4 → Ready s b n (length before)
-      lists_ready room = ready s r.0 b n (length before) r.1 r.2 room
+      pub lists_ready : x.items ≤ length before / 4 → Ready s x.start x.items (length before)
+      lists_ready room = ready s r.0 x.start x.items (length before) r.1 r.2 room
 
-      pub lists_items : n ≤ length before / 4 → (after : List ℕ) → Fills s b n before after → Lists s before (Items n) after
+      pub lists_items : x.items ≤ length before / 4 → (after : List ℕ) → Fills s x.start x.items before after → Lists s before (Ok x.items) after
       lists_items room after f =
-          let is : n ≡ count r.0 = counted r.0 n r.2 in
-          let answer : listing (good r.0) (length before / 4) ≡ accepted 0 (n ∷ []) = rw (sym is, le-ltb (length before / 4) n room) in (
+          let is : x.items ≡ count r.0 = counted r.0 x.items r.2 in
+          let answer : listing (good r.0) (length before / 4) ≡ accepted 0 (x.items ∷ []) = rw (sym is, le-ltb (length before / 4) x.items room) in (
             good r.0,
             sym answer,
-            filled_words s r.0 b n before after r.1 r.2 f ∙ sym (ap (λ (a : Answer). afterwards a (outer r.0) before) answer),
+            filled_words s r.0 x.start x.items before after r.1 r.2 f ∙ sym (ap (λ (a : Answer). afterwards a (outer r.0) before) answer),
           )

@@ -17,10 +17,10 @@ use Rattle.yson_grammar.proofs.RunLaws.{end_good}
 use Rattle.yson_grammar.proofs.Complete.{items_pass}
 use Rattle.yson_grammar.proofs.Sound.{bad_good, deep_good}
 use Rattle.yson_grammar.proofs.OneListing.{pair_same, item_first, entries_same}
-use Rattle.yson.specs.Stages.{faulty, map_at, map_in, four, ReadsPair, Stores, Coming, Ready, Fills}
+use Rattle.yson.specs.Stages.{faulty, keyed_to, map_at, map_in, four, ReadsPair, Stores, Coming, Ready, Fills}
 use Rattle.yson.specs.declared.Fault.{Fault}
 use Rattle.yson.specs.declared.Fault.TheVariants.{BadYson, TooDeep}
-use Rattle.yson.specs.declared.PairRead.TheVariants.{Whole, Failed}
+use Rattle.std.specs.declared.result.Result.TheVariants.{Err}
 
 -- four stores, one behind the other
 store_four : (done xs : List ℕ) (n a b c d : ℕ) → length done ≡ n → n + 4 ≤ length xs
@@ -100,7 +100,7 @@ module _ (s : List ℕ) where
     not_square : curly ≡ square → ⊥
     not_square e = let z : ◌≡◌ {A = ℕ} 0 1 = cc in omega arith
 
-    pub never_fails : (q : Fault) → ReadsPair s 63 at (Failed q) → ⊥
+    pub never_fails : (q : Fault) → ReadsPair s 63 at (Err q) → ⊥
     never_fails q r = faulty_good q (sym (r.runs curly not_square (λ e. omega (arith, e, begins_key i some)) []) ∙ there)
 
   mark_behind : (b c : ℕ) → Token s 59 b c → c ≡ b + 1
@@ -110,7 +110,7 @@ module _ (s : List ℕ) where
       same : end c ≡ end (b + 1) → c ≡ b + 1
       same e = cc
 
-  pub after_pair : (at m e z : ℕ) (i : Items s curly 63 at z) → z ≡ length s → 0 < length (entries i) → ReadsPair s 63 at (Whole m e)
+  pub after_pair : (at m e z : ℕ) (i : Items s curly 63 at z) → z ≡ length s → 0 < length (entries i) → ReadsPair s 63 at (keyed_to m e)
       → (rest : List ℕ) × (entries i ≡ four at m e ++ rest) × Coming s (e + 1) rest
   unfolding entries entry
   after_pair at m e z (Grammar.none t) full some r = absurd (omega arith)
@@ -176,10 +176,10 @@ module _ (s : List ℕ) where
       plenty : 0 < length (entries some.0)
       plenty = omega (arith, left, ap length some.1)
 
-      pub filling_fails : (q : Fault) → ReadsPair s 63 at (Failed q) → ⊥
+      pub filling_fails : (q : Fault) → ReadsPair s 63 at (Err q) → ⊥
       filling_fails q r = never_fails at some.0 plenty q r
 
-      module _ (m e : ℕ) (r : ReadsPair s 63 at (Whole m e)) where
+      module _ (m e : ℕ) (r : ReadsPair s 63 at (keyed_to m e)) where
         one : (rest : List ℕ) × (entries some.0 ≡ four at m e ++ rest) × Coming s (e + 1) rest
         one = after_pair at m e (length s) some.0 refl plenty r
 

@@ -8,6 +8,7 @@ use Rattle.words.specs.Answer.{Answer, accepted, more, refused, afterwards}
 use Rattle.words.specs.Decide.{◌=?◌, ◌⇒◌, decide}
 use Rattle.words.specs.Statement.{OneResult}
 use Rattle.words.specs.Paper.{room_line}
+use Rattle.words.specs.declared.outcome.NoRoom.{NoRoom}
 use Rattle.words.specs.declared.outcome.Room.TheVariants.{Items as ItemRoom}
 use Rattle.words.proofs.Unique.{means_one}
 use Rattle.words.proofs.PaperLaws.{no_room_of, no_room_back}
@@ -17,26 +18,28 @@ use Rattle.yson_grammar.proofs.OneListing.{outer_same}
 use Rattle.yson.specs.Reading.{Reading, good, bad, deep, words_of, count, checking, listing}
 use Rattle.yson.specs.Paper.{paper}
 use Rattle.yson.specs.Statement.{Checks, Lists}
-use Rattle.yson.specs.declared.Listed.{Listed}
-use Rattle.yson.specs.declared.Listed.TheVariants.{Items, Broken, Short}
+use Rattle.yson.specs.declared.YsonError.{YsonError}
+use Rattle.yson.specs.declared.YsonError.TheVariants.{Broken, Short}
+use Rattle.std.specs.declared.result.Result.{Result}
+use Rattle.std.specs.declared.result.Result.TheVariants.{Ok, Err}
 use Rattle.yson.specs.declared.Fault.TheVariants.{BadYson, TooDeep}
 
--- back from an answer to the enum's case
-refused_back : ℕ → List ℕ → Listed
+-- back from an answer to the result
+refused_back : ℕ → List ℕ → YsonError
 refused_back number values =
     decide (number =? 20 ⇒ Broken (BadYson (get_or values 0 0)) ∷ number =? 21 ⇒ Broken (TooDeep (get_or values 0 0)) ∷ []) (Short (no_room_of values))
 
-listed_back : Answer → Listed
-listed_back (accepted n fields) = Items (get_or fields 0 0)
-listed_back more = Items 0
-listed_back (refused number values consumed) = refused_back number values
+listed_back : Answer → Result ℕ YsonError
+listed_back (accepted n fields) = Ok (get_or fields 0 0)
+listed_back more = Ok 0
+listed_back (refused number values consumed) = Err (refused_back number values)
 
-listed_back_lem : (r : Listed) → listed_back (paper r) ≡ r
+listed_back_lem : (r : Result ℕ YsonError) → listed_back (paper r) ≡ r
 unfolding listed_back refused_back
-listed_back_lem (Items n) = refl
-listed_back_lem (Broken (BadYson p)) = refl
-listed_back_lem (Broken (TooDeep p)) = refl
-listed_back_lem (Short short) = ap Short (no_room_back short)
+listed_back_lem (Ok n) = refl
+listed_back_lem (Err (Broken (BadYson p))) = refl
+listed_back_lem (Err (Broken (TooDeep p))) = refl
+listed_back_lem (Err (Short short)) = ap (λ (n : NoRoom). Err (Short n)) (no_room_back short)
 
 module _ (s : List ℕ) where
   -- what two readings of one input share
@@ -67,7 +70,7 @@ module _ (s : List ℕ) where
   check_unique r r' p q =
       means_one paper listed_back listed_back_lem (checking q.0) r r' (p.1 ∙ (one_reading p.0 q.0).checked) q.1
 
-  pub items_unique : (before : List ℕ) → OneResult (λ (p : Listed × List ℕ). Lists s before p.0 p.1)
+  pub items_unique : (before : List ℕ) → OneResult (λ (p : Result ℕ YsonError × List ℕ). Lists s before p.0 p.1)
   items_unique before p p' q q' =
       let same = one_reading q.0 q'.0 in
       let room : ℕ = length before / 4 in

@@ -1,5 +1,5 @@
 -- What the private functions promise each other; nothing here need be believed. Assumes nothing.
-use Rattle.std.specs.Prelude.{◌≡◌, List, [], ◌∷◌, ◌⊎◌, ℕ, suc, ◌+◌, ◌*◌, ◌<◌, ◌≤◌, length, get_or, set}
+use Rattle.std.specs.Prelude.{◌≡◌, List, [], ◌∷◌, ◌⊎◌, Result, Ok, Err, ℕ, suc, ◌+◌, ◌*◌, ◌<◌, ◌≤◌, length, get_or, set}
 use Rattle.words.specs.Buffer.{over}
 use Rattle.words.specs.Decide.{pick, ◌=?◌}
 use Rattle.yson_token.specs.Token.{Bracket, square, curly, angle, closing}
@@ -9,27 +9,33 @@ use Rattle.yson_grammar.specs.Stages.{Due, Verdict, bad, deep, next, object, nod
 use Rattle.yson.specs.declared.Fault.{Fault}
 use Rattle.yson.specs.declared.Fault.TheVariants.{BadYson, TooDeep}
 use Rattle.yson.specs.declared.Read.{Read}
-use Rattle.yson.specs.declared.Read.TheVariants.{Ended, Refused}
 use Rattle.yson.specs.declared.PairRead.{PairRead}
-use Rattle.yson.specs.declared.PairRead.TheVariants.{Whole, Failed}
 
 abbrev pub faulty : Fault → Verdict
 faulty (BadYson place) = bad place
 faulty (TooDeep place) = deep place
 
--- where a reading ended, the machine goes on from there
-abbrev pub onward : (ℕ → Verdict) → Read → Verdict
-onward on (Ended e b n) = on e
-onward on (Refused f) = faulty f
+-- what was read up to e, with n pairs of a map from b on
+abbrev pub ended : ℕ → ℕ → ℕ → Result Read Fault
+ended e b n = Ok record { end = e; start = b; items = n }
 
-abbrev pub onward_pair : (ℕ → Verdict) → PairRead → Verdict
-onward_pair on (Whole m e) = on e
-onward_pair on (Failed f) = faulty f
+-- a pair up to e, whose key ends at m
+abbrev pub keyed_to : ℕ → ℕ → Result PairRead Fault
+keyed_to m e = Ok record { middle = m; end = e }
+
+-- where a reading ended, the machine goes on from there
+abbrev pub onward : (ℕ → Verdict) → Result Read Fault → Verdict
+onward on (Ok r) = on r.end
+onward on (Err f) = faulty f
+
+abbrev pub onward_pair : (ℕ → Verdict) → Result PairRead Fault → Verdict
+onward_pair on (Ok r) = on r.end
+onward_pair on (Err f) = faulty f
 
 -- what was read is not empty and lies in the input
-abbrev pub Grows : List ℕ → ℕ → Read → Type 0
-Grows s at (Ended e b n) = (at < e) × (e ≤ length s)
-Grows s at (Refused f) = Unit {0}
+abbrev pub Grows : List ℕ → ℕ → Result Read Fault → Type 0
+Grows s at (Ok r) = (at < r.end) × (r.end ≤ length s)
+Grows s at (Err f) = Unit {0}
 
 -- where the pairs of a map begin; 0 where there is no map
 unfoldable pub map_at : {s : List ℕ} {room a b : ℕ} → Object s room a b → ℕ
@@ -49,12 +55,12 @@ Shape s room item at e b n = Unit {0}
 Shape s room next at e b n = Unit {0}
 Shape s room equals at e b n = Unit {0}
 
-abbrev pub Derived : (ℕ → ℕ → ℕ → Type 0) → Read → Type 0
-Derived shape (Ended e b n) = shape e b n
-Derived shape (Refused f) = Unit {0}
+abbrev pub Derived : (ℕ → ℕ → ℕ → Type 0) → Result Read Fault → Type 0
+Derived shape (Ok r) = shape r.end r.start r.items
+Derived shape (Err f) = Unit {0}
 
 -- reading what is due from `at` on, whatever is open around it
-pub record Reads (s : List ℕ) (room : ℕ) (due : Due) (at : ℕ) (r : Read) : Type 0 where
+pub record Reads (s : List ℕ) (room : ℕ) (due : Due) (at : ℕ) (r : Result Read Fault) : Type 0 where
   pub grows : Grows s at r
   pub runs : (around : List Bracket) → from s room due around at ≡ onward (λ e. from s room next around e) r
   pub derived : Derived (Shape s room due at) r
@@ -66,7 +72,7 @@ pairs_at curly at = at
 pairs_at angle at = at
 
 -- reading the items of a bracket, up to and with its end
-pub record ReadsItems (s : List ℕ) (k : Bracket) (room at : ℕ) (r : Read) : Type 0 where
+pub record ReadsItems (s : List ℕ) (k : Bracket) (room at : ℕ) (r : Result Read Fault) : Type 0 where
   pub grows : Grows s at r
   pub runs : (around : List Bracket)
       → from s room item (k ∷ around) at ≡ onward (λ e. from s (suc room) (behind k) around e) r
@@ -76,20 +82,20 @@ pub record ReadsItems (s : List ℕ) (k : Bracket) (room at : ℕ) (r : Read) : 
 abbrev pub keyed : ℕ → Bracket
 keyed close = pick (close =? closing angle) angle curly
 
-abbrev pub PairGrows : List ℕ → ℕ → PairRead → Type 0
-PairGrows s at (Whole m e) = (at < m) × (m + 1 < e) × (e ≤ length s)
-PairGrows s at (Failed f) = Unit {0}
+abbrev pub PairGrows : List ℕ → ℕ → Result PairRead Fault → Type 0
+PairGrows s at (Ok r) = (at < r.middle) × (r.middle + 1 < r.end) × (r.end ≤ length s)
+PairGrows s at (Err f) = Unit {0}
 
 -- the four words of a pair
 abbrev pub four : ℕ → ℕ → ℕ → List ℕ
 four at m e = at ∷ m ∷ (m + 1) ∷ e ∷ []
 
-abbrev pub PairDerived : List ℕ → ℕ → ℕ → PairRead → Type 0
-PairDerived s room at (Whole m e) = (p : Pair s room at e) × (places p ≡ four at m e)
-PairDerived s room at (Failed f) = Unit {0}
+abbrev pub PairDerived : List ℕ → ℕ → ℕ → Result PairRead Fault → Type 0
+PairDerived s room at (Ok r) = (p : Pair s room at r.end) × (places p ≡ four at r.middle r.end)
+PairDerived s room at (Err f) = Unit {0}
 
 -- reading one pair of a map or of attributes that do not end here
-pub record ReadsPair (s : List ℕ) (room at : ℕ) (r : PairRead) : Type 0 where
+pub record ReadsPair (s : List ℕ) (room at : ℕ) (r : Result PairRead Fault) : Type 0 where
   pub grows : PairGrows s at r
   pub runs : (k : Bracket) → (k ≡ square → ⊥) → (get_or s at 0 ≡ closing k → ⊥) → (around : List Bracket)
       → from s room item (k ∷ around) at ≡ onward_pair (λ e. from s room next (k ∷ around) e) r
@@ -100,9 +106,9 @@ abbrev pub Stores : ℕ → ℕ → ℕ → ℕ → List ℕ → List ℕ → Ty
 Stores n at m e before after = after ≡ set (set (set (set before n at) (n + 1) m) (n + 2) (m + 1)) (n + 3) e
 
 -- reading the whole input
-abbrev pub ReadsWhole : List ℕ → Read → Type 0
-ReadsWhole s (Ended e b n) = (d : Yson s) × (map_in d ≡ b) × (length (outer d) ≡ 4 * n)
-ReadsWhole s (Refused f) = faulty f ≡ verdict s
+abbrev pub ReadsWhole : List ℕ → Result Read Fault → Type 0
+ReadsWhole s (Ok r) = (d : Yson s) × (map_in d ≡ r.start) × (length (outer d) ≡ 4 * r.items)
+ReadsWhole s (Err f) = faulty f ≡ verdict s
 
 -- these are the words of the pairs from `at` to the input's end, if any are still to come
 abbrev pub Coming : List ℕ → ℕ → List ℕ → Type 0

@@ -1,17 +1,17 @@
 -- What each public function promises, by name, over the input, the result and the lent table at entry and at exit.
 -- Assumes nothing.
-use Rattle.std.specs.Prelude.{ℕ, ◌/◌, List, length}
+use Rattle.std.specs.Prelude.{ℕ, ◌/◌, List, length, Result}
 use Rattle.words.specs.Statement.{Means, Holds}
-use Rattle.yson.specs.declared.Listed.{Listed}
+use Rattle.yson.specs.declared.YsonError.{YsonError}
 use Rattle.yson.specs.Reading.{Reading, words_of, checking, listing}
 use Rattle.yson.specs.Paper.{paper}
 
 -- the answer of the input's reading
-abbrev pub Checks : List ℕ → Listed → Type 0
+abbrev pub Checks : List ℕ → Result ℕ YsonError → Type 0
 Checks s r = (x : Reading s) × Means paper (checking x) r
 
 -- the answer, and the items' words over the table's front; four words are room for an item
-abbrev pub Lists : List ℕ → List ℕ → Listed → List ℕ → Type 0
+abbrev pub Lists : List ℕ → List ℕ → Result ℕ YsonError → List ℕ → Type 0
 Lists s before r after =
     (x : Reading s)
     × Means paper (listing x (length before / 4)) r

@@ -9,7 +9,7 @@ use Rattle.yson_grammar.specs.Grammar.{plain, attributed, single, map, more, map
 use Rattle.yson_grammar.specs.Grammar as Grammar
 use Rattle.yson_grammar.specs.Items.{places, entry, entries, of_object, outer}
 use Rattle.yson.specs.Statement.{Lists}
-use Rattle.yson.specs.declared.Listed.TheVariants.{Items as Found}
+use Rattle.std.specs.declared.result.Result.TheVariants.{Ok}
 use Rattle.yson_promises.proofs.Yson.{yson_items}
 
 abbrev note : List ℕ
@@ -33,5 +33,5 @@ unfolding derived outer of_object entries entry places
 item = refl
 
 -- what the reader says of it and leaves in the table
-pub note_listed : (before after : List ℕ) (n : ℕ) → Lists note before (Found n) after → after ≡ over (1 ∷ 4 ∷ 5 ∷ 8 ∷ []) before
+pub note_listed : (before after : List ℕ) (n : ℕ) → Lists note before (Ok n) after → after ≡ over (1 ∷ 4 ∷ 5 ∷ 8 ∷ []) before
 note_listed before after n l = rw item at (yson_items note before after n l derived).2

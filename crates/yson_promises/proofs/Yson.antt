@@ -20,8 +20,10 @@ use Rattle.yson_grammar.proofs.OneListing.{outer_same}
 use Rattle.yson.specs.Reading.{Reading, good, bad, deep, words_of, count, checking, listing}
 use Rattle.yson.specs.Paper.{paper}
 use Rattle.yson.specs.Statement.{Checks, Lists}
-use Rattle.yson.specs.declared.Listed.{Listed}
-use Rattle.yson.specs.declared.Listed.TheVariants.{Items, Broken, Short}
+use Rattle.std.specs.declared.result.Result.{Result}
+use Rattle.std.specs.declared.result.Result.TheVariants.{Ok, Err}
+use Rattle.yson.specs.declared.YsonError.{YsonError}
+use Rattle.yson.specs.declared.YsonError.TheVariants.{Broken, Short}
 use Rattle.yson.specs.declared.Fault.TheVariants.{BadYson, TooDeep}
 use Rattle.yson_grammar.specs.Place.{BadAt, DeepAt}
 use Rattle.yson_promises.specs.Yson.{Accepted, AcceptsExactly, OneExtent, AcceptedWhole, ItemsOfOuterMap, KeysAndValues, RefusalKeeps, Place}
@@ -43,25 +45,25 @@ AsRead (good d) n = (n ≡ 0) ⊎ (n ≡ 17)
 AsRead (bad p e) n = n ≡ 20
 AsRead (deep p e) n = n ≡ 21
 
-accepted_number : (r : Listed) → Accepted r → (number_of (paper r) ≡ 0) ⊎ (number_of (paper r) ≡ 17)
+accepted_number : (r : Result ℕ YsonError) → Accepted r → (number_of (paper r) ≡ 0) ⊎ (number_of (paper r) ≡ 17)
 unfolding number_of
-accepted_number (Items n) ok = inl refl
-accepted_number (Broken q) ok = absurd ok
-accepted_number (Short short) ok = inr refl
+accepted_number (Ok n) ok = inl refl
+accepted_number (Err (Broken q)) ok = absurd ok
+accepted_number (Err (Short short)) ok = inr refl
 
-number_accepted : (r : Listed) → (number_of (paper r) ≡ 20 → ⊥) → (number_of (paper r) ≡ 21 → ⊥) → Accepted r
+number_accepted : (r : Result ℕ YsonError) → (number_of (paper r) ≡ 20 → ⊥) → (number_of (paper r) ≡ 21 → ⊥) → Accepted r
 unfolding number_of
-number_accepted (Items n) no-20 no-21 = tt
-number_accepted (Broken (BadYson p)) no-20 no-21 = no-20 refl
-number_accepted (Broken (TooDeep p)) no-20 no-21 = no-21 refl
-number_accepted (Short short) no-20 no-21 = tt
+number_accepted (Ok n) no-20 no-21 = tt
+number_accepted (Err (Broken (BadYson p))) no-20 no-21 = no-20 refl
+number_accepted (Err (Broken (TooDeep p))) no-20 no-21 = no-21 refl
+number_accepted (Err (Short short)) no-20 no-21 = tt
 
 other : {n : ℕ} (k : ℕ) → (0 ≡ k → ⊥) → (17 ≡ k → ⊥) → (n ≡ 0) ⊎ (n ≡ 17) → n ≡ k → ⊥
 other k a b (inl e) f = a (sym e ∙ f)
 other k a b (inr e) f = b (sym e ∙ f)
 
 module _ (s : List ℕ) where
-  exactly : (x : Reading s) (a : Answer) (r : Listed) → paper r ≡ a → AsRead x (number_of a) → (Accepted r → Yson s) × (Yson s → Accepted r)
+  exactly : (x : Reading s) (a : Answer) (r : Result ℕ YsonError) → paper r ≡ a → AsRead x (number_of a) → (Accepted r → Yson s) × (Yson s → Accepted r)
   exactly (good d) a r e n = (
     (λ ok. d),
     (λ yes. number_accepted r
@@ -90,10 +92,10 @@ module _ (s : List ℕ) where
   listing_number (bad p e) room = refl
   listing_number (deep p e) room = refl
 
-  checks_exactly : (r : Listed) → Checks s r → (Accepted r → Yson s) × (Yson s → Accepted r)
+  checks_exactly : (r : Result ℕ YsonError) → Checks s r → (Accepted r → Yson s) × (Yson s → Accepted r)
   checks_exactly r c = exactly c.0 (checking c.0) r c.1 (checking_number c.0)
 
-  lists_exactly : (before after : List ℕ) (r : Listed) → Lists s before r after → (Accepted r → Yson s) × (Yson s → Accepted r)
+  lists_exactly : (before after : List ℕ) (r : Result ℕ YsonError) → Lists s before r after → (Accepted r → Yson s) × (Yson s → Accepted r)
   lists_exactly before after r c = exactly c.0 (listing c.0 (length before / 4)) r c.1 (listing_number c.0 (length before / 4))
 
 pub yson_accepts_exactly : AcceptsExactly
@@ -138,13 +140,13 @@ module _ (s before after : List ℕ) where
   roomy n (bad p is) = λ e. absurd (refused_not_accepted 20 _ 0 0 (n ∷ []) (sym e))
   roomy n (deep p is) = λ e. absurd (refused_not_accepted 21 _ 0 0 (n ∷ []) (sym e))
 
-  not_items : (r : Listed) (n : ℕ) → paper r ≡ accepted 0 (n ∷ []) → ((m : ℕ) → r ≡ Items m → ⊥) → ⊥
-  not_items (Items m) n e differs = differs m refl
-  not_items (Broken (BadYson p)) n e differs = refused_not_accepted 20 _ 0 0 (n ∷ []) e
-  not_items (Broken (TooDeep p)) n e differs = refused_not_accepted 21 _ 0 0 (n ∷ []) e
-  not_items (Short short) n e differs = refused_not_accepted 17 _ 0 0 (n ∷ []) e
+  not_items : (r : Result ℕ YsonError) (n : ℕ) → paper r ≡ accepted 0 (n ∷ []) → ((m : ℕ) → r ≡ Ok m → ⊥) → ⊥
+  not_items (Ok m) n e differs = differs m refl
+  not_items (Err (Broken (BadYson p))) n e differs = refused_not_accepted 20 _ 0 0 (n ∷ []) e
+  not_items (Err (Broken (TooDeep p))) n e differs = refused_not_accepted 21 _ 0 0 (n ∷ []) e
+  not_items (Err (Short short)) n e differs = refused_not_accepted 17 _ 0 0 (n ∷ []) e
 
-  keeps : (r : Listed) (x : Reading s) → ((m : ℕ) → r ≡ Items m → ⊥) → paper r ≡ listing x (length before / 4)
+  keeps : (r : Result ℕ YsonError) (x : Reading s) → ((m : ℕ) → r ≡ Ok m → ⊥) → paper r ≡ listing x (length before / 4)
       → after ≡ afterwards (listing x (length before / 4)) (words_of x) before → after ≡ before
   keeps r (good d) differs =
       pick_case ((length before / 4) <? count d) (no_room ItemRoom (count d) (length before / 4)) (accepted 0 (count d ∷ []))
@@ -161,7 +163,7 @@ yson_items s before after n l d =
 
 pub yson_keys_and_values : KeysAndValues
 yson_keys_and_values s before after n l =
-    let d = ((yson_accepts_exactly s).1 before after (Items n) l).0 tt in
+    let d = ((yson_accepts_exactly s).1 before after (Ok n) l).0 tt in
     let x = yson_items s before after n l d in
     (outer d, x.0, x.2, yson_stretches s d)
 
@@ -174,12 +176,12 @@ module _ (s : List ℕ) where
   value_same : {number number' p q : ℕ} → refuse number (p ∷ []) ≡ refuse number' (q ∷ []) → (number ≡ number') × (p ≡ q)
   value_same e = (cc, cc)
 
-  checks_bad : (p : ℕ) → Checks s (Broken (BadYson p)) → BadAt s p
+  checks_bad : (p : ℕ) → Checks s (Err (Broken (BadYson p))) → BadAt s p
   checks_bad p (good d, e) = absurd (refused_not_accepted 20 _ 0 0 _ e)
   checks_bad p (bad q is, e) = subst (BadAt s) (sym (value_same e).1) is
   checks_bad p (deep q is, e) = absurd (omega (arith, (value_same e).0))
 
-  checks_deep : (p : ℕ) → Checks s (Broken (TooDeep p)) → DeepAt s p
+  checks_deep : (p : ℕ) → Checks s (Err (Broken (TooDeep p))) → DeepAt s p
   checks_deep p (good d, e) = absurd (refused_not_accepted 21 _ 0 0 _ e)
   checks_deep p (bad q is, e) = absurd (omega (arith, (value_same e).0))
   checks_deep p (deep q is, e) = subst (DeepAt s) (sym (value_same e).1) is

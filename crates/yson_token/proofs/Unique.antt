@@ -7,18 +7,18 @@ use Rattle.words.specs.Statement.{OneResult}
 use Rattle.words.proofs.Unique.{equal_to_one}
 use Rattle.yson_token.specs.Token.{End, end, none, scalar_end, key_end}
 use Rattle.yson_token.specs.Statement.{end_of, Finds, ReadsByte, FindsScalar, FindsKey}
-use Rattle.yson_token.specs.declared.Found.{Found}
-use Rattle.yson_token.specs.declared.Found.TheVariants.{Whole, Nothing}
+use Rattle.std.specs.declared.option.Option.{Option}
+use Rattle.std.specs.declared.option.Option.TheVariants.{Some, None}
 
--- back from an end to the enum's case
-found_of : End → Found
-found_of (end e) = Whole e
-found_of none = Nothing
+-- back from an end to the option
+found_of : End → Option ℕ
+found_of (end e) = Some e
+found_of none = None
 
-found_back : (r : Found) → found_of (end_of r) ≡ r
+found_back : (r : Option ℕ) → found_of (end_of r) ≡ r
 unfolding found_of
-found_back (Whole e) = refl
-found_back Nothing = refl
+found_back (Some e) = refl
+found_back None = refl
 
 pub finds_one : (e : End) → OneResult (Finds e)
 finds_one e r r' p q = sym (found_back r) ∙ ap found_of (p ∙ sym q) ∙ found_back r'

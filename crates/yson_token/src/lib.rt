@@ -7,13 +7,6 @@ ghost use Rattle.yson_token.specs.Statement.{ReadsByte, Finds, FindsScalar, Find
 
 use varint::read::{Varint, read_varint};
 
-// Where a whole token ends, if one is there.
-#[derive(Clone, Copy)]
-pub enum Found {
-    Whole(usize),
-    Nothing,
-}
-
 // The byte at `at`, 0 past the end.
 pub fn byte_at(s: &[u8], at: usize) -> u8
     ensures { ReadsByte s.now at result }
@@ -22,75 +15,59 @@ pub fn byte_at(s: &[u8], at: usize) -> u8
 }
 
 // The end of a number whose varint begins at `at`.
-fn number(s: &[u8], at: usize) -> Found
+#[tactic(auto, unfolding(crate::specs::Token::number_end))]
+fn number(s: &[u8], at: usize) -> Option<usize>
     ensures { Finds (number_end s.now at) result }
 {
-    match read_varint(s, at, s.len()) {
-        Varint::Whole(_, end) => Found::Whole(end),
-        Varint::Broken => Found::Nothing,
-    }
+    let Varint { next, .. } = read_varint(s, at, s.len())?;
+    Some(next)
 }
 
 // The end of a string whose length begins at `at`. The length is zigzag: an odd varint is a negative one.
-fn text(s: &[u8], at: usize) -> Found
+#[tactic(auto, unfolding(crate::specs::Token::text_end, crate::specs::Token::string_from, crate::specs::Token::within))]
+fn text(s: &[u8], at: usize) -> Option<usize>
     ensures { Finds (text_end s.now at) result }
 {
-    match read_varint(s, at, s.len()) {
-        Varint::Whole(value, end) => {
-            if value % 2 == 1 {
-                return Found::Nothing;
-            }
-            if 0xffff_ffff < value {
-                return Found::Nothing;
-            }
-            let size = (value / 2) as usize;
-            if s.len() - end < size {
-                return Found::Nothing;
-            }
-            Found::Whole(end + size)
-        }
-        Varint::Broken => Found::Nothing,
+    let Varint { value, next } = read_varint(s, at, s.len())?;
+    if value % 2 == 1 {
+        return None;
     }
+    if 0xffff_ffff < value {
+        return None;
+    }
+    let size = (value / 2) as usize;
+    if s.len() - next < size {
+        return None;
+    }
+    Some(next + size)
 }
 
-// The end of the scalar that begins at `at`.
-pub fn scalar(s: &[u8], at: usize) -> Found
+// Where the scalar that begins at `at` ends, if a whole one does.
+#[tactic(auto, unfolding(crate::specs::Token::scalar_end, crate::specs::Token::within))]
+pub fn scalar(s: &[u8], at: usize) -> Option<usize>
     ensures { FindsScalar s.now at result }
 {
-    let first = byte_at(s, at);
-    if first == 1 {
-        return text(s, at + 1);
-    }
-    if first == 2 {
-        return number(s, at + 1);
-    }
-    if first == 3 {
-        if s.len() - at < 9 {
-            return Found::Nothing;
+    match byte_at(s, at) {
+        1 => text(s, at + 1),
+        2 | 6 => number(s, at + 1),
+        3 => {
+            if s.len() - at < 9 {
+                return None;
+            }
+            Some(at + 9)
         }
-        return Found::Whole(at + 9);
+        4 | 5 | b'#' => Some(at + 1),
+        _ => None,
     }
-    if first == 4 {
-        return Found::Whole(at + 1);
-    }
-    if first == 5 {
-        return Found::Whole(at + 1);
-    }
-    if first == 6 {
-        return number(s, at + 1);
-    }
-    if first == b'#' {
-        return Found::Whole(at + 1);
-    }
-    Found::Nothing
 }
 
-// The end of the string that begins at `at`: what may be a key.
-pub fn key(s: &[u8], at: usize) -> Found
+// Where the string that begins at `at` ends, if a whole one does: what may be a key.
+#[tactic(auto, unfolding(crate::specs::Token::key_end))]
+pub fn key(s: &[u8], at: usize) -> Option<usize>
     ensures { FindsKey s.now at result }
 {
     if byte_at(s, at) == 1 {
         return text(s, at + 1);
     }
-    Found::Nothing
+    None
 }

@@ -7,11 +7,11 @@ use lib.ListN.{length, drop}
 use Rattle.places.specs.Machine.{run}
 use Rattle.places.proofs.MachineLaws.{loop_on, loop_off, loop_read, loop_early}
 use Rattle.guid_text.specs.declared.Reason.TheVariants.{Empty, TooLong, NotHex, FieldCount}
-use Rattle.guid_text.specs.declared.Parsed.TheVariants.{Read, Bad}
+use Rattle.std.specs.declared.result.Result.TheVariants.{Ok, Err}
 use Rattle.guid.specs.Guid.{guid_of}
-use Rattle.guid_text.proofs.Walk.{State, st, start, walk}
+use Rattle.guid_text.proofs.Walk.{st, start, walk}
 use Rattle.guid_text.proofs.WalkLaws.{word_more, word_fits, dash_empty, dash_many, dash_at, other_long, other_wrong, other_next, end_empty, end_few, end_read, word_none, apart}
-use Rattle.guid_text.proofs.ReasonLaws.{ending_of, parses}
+use Rattle.guid_text.proofs.ReasonLaws.{parses}
 use borrow.Author.Rules.{rules}
 use Rattle.guid_text.proofs.parse.Statement.{statement}
 use Rattle.guid_text.proofs.parse.Tie as tie
@@ -39,7 +39,7 @@ returns : tie.Need-returns-then-count-eq0 invariant-loop decreases-loop
 returns c =
     let l = c.loop-at in
     let q = st l.left (l.at - l.start) l.w0 l.w1 l.w2 l.w3 in
-    rw c.bad.ensures (parses _ (Bad l.at Empty) (sym l.invariant.4 ∙ loop_off walk q _ l.at Empty c.loop-at-test.true (dash_empty q _ c.if-byte-eq45.true c.if-count-eq0.true)))
+    rw c.bad.ensures (parses _ (Err record { position = l.at; reason = Empty }) (sym l.invariant.4 ∙ loop_off walk q _ l.at Empty c.loop-at-test.true (dash_empty q _ c.if-byte-eq45.true c.if-count-eq0.true)))
 
 bad-requires-2 : tie.Need-bad-requires-then-left-eq0 invariant-loop decreases-loop
 bad-requires-2 c κs = search rules
@@ -48,7 +48,7 @@ returns-2 : tie.Need-returns-then-left-eq0 invariant-loop decreases-loop
 returns-2 c =
     let l = c.loop-at in
     let q = st l.left (l.at - l.start) l.w0 l.w1 l.w2 l.w3 in
-    rw c.bad-then-left-eq0.ensures (parses _ (Bad l.at FieldCount) (sym l.invariant.4 ∙ loop_off walk q _ l.at FieldCount c.loop-at-test.true (dash_many q _ c.if-byte-eq45.true (omega (arith, c.if-count-eq0.false)) c.if-left-eq0.true)))
+    rw c.bad-then-left-eq0.ensures (parses _ (Err record { position = l.at; reason = FieldCount }) (sym l.invariant.4 ∙ loop_off walk q _ l.at FieldCount c.loop-at-test.true (dash_many q _ c.if-byte-eq45.true (omega (arith, c.if-count-eq0.false)) c.if-left-eq0.true)))
 
 sub-left : tie.Need-overflow_sub-left invariant-loop decreases-loop
 sub-left c = omega arith
@@ -76,7 +76,7 @@ returns-3 : tie.Need-returns-then-value-gt15 invariant-loop decreases-loop
 returns-3 c =
     let l = c.loop-at in
     let q = st l.left (l.at - l.start) l.w0 l.w1 l.w2 l.w3 in
-    rw c.bad-then-value-gt15.ensures (parses _ (Bad l.at NotHex) (sym l.invariant.4 ∙ loop_off walk q _ l.at NotHex c.loop-at-test.true (other_wrong q _ c.if-byte-eq45.false (omega (arith, c.if-count-lt7.true)) (omega (arith, c.if-value-gt15.true, c.digit_value-value.ensures)))))
+    rw c.bad-then-value-gt15.ensures (parses _ (Err record { position = l.at; reason = NotHex }) (sym l.invariant.4 ∙ loop_off walk q _ l.at NotHex c.loop-at-test.true (other_wrong q _ c.if-byte-eq45.false (omega (arith, c.if-count-lt7.true)) (omega (arith, c.if-value-gt15.true, c.digit_value-value.ensures)))))
 
 mul-w0 : tie.Need-overflow_mul-w0 invariant-loop decreases-loop
 mul-w0 c =
@@ -112,7 +112,7 @@ returns-4 : tie.Need-returns-then-count-gt7 invariant-loop decreases-loop
 returns-4 c =
     let l = c.loop-at in
     let q = st l.left (l.at - l.start) l.w0 l.w1 l.w2 l.w3 in
-    rw c.bad-then-count-gt7.ensures (parses _ (Bad l.at TooLong) (sym l.invariant.4 ∙ loop_off walk q _ l.at TooLong c.loop-at-test.true (other_long q _ c.if-byte-eq45.false c.if-count-gt7.true)))
+    rw c.bad-then-count-gt7.ensures (parses _ (Err record { position = l.at; reason = TooLong }) (sym l.invariant.4 ∙ loop_off walk q _ l.at TooLong c.loop-at-test.true (other_long q _ c.if-byte-eq45.false c.if-count-gt7.true)))
 
 digit_value-requires-2 : tie.Need-digit_value-last-requires invariant-loop decreases-loop
 digit_value-requires-2 c κs = search rules
@@ -124,7 +124,7 @@ returns-5 : tie.Need-returns-then-last-gt15 invariant-loop decreases-loop
 returns-5 c =
     let l = c.loop-at in
     let q = st l.left (l.at - l.start) l.w0 l.w1 l.w2 l.w3 in
-    rw c.bad-then-last-gt15.ensures (parses _ (Bad l.at NotHex) (sym l.invariant.4 ∙ loop_off walk q _ l.at NotHex c.loop-at-test.true (other_wrong q _ c.if-byte-eq45.false c.if-count-gt7.false (omega (arith, c.if-last-gt15.true, c.digit_value-last.ensures)))))
+    rw c.bad-then-last-gt15.ensures (parses _ (Err record { position = l.at; reason = NotHex }) (sym l.invariant.4 ∙ loop_off walk q _ l.at NotHex c.loop-at-test.true (other_wrong q _ c.if-byte-eq45.false c.if-count-gt7.false (omega (arith, c.if-last-gt15.true, c.digit_value-last.ensures)))))
 
 mul-w0-2 : tie.Need-overflow_mul-w0-in-loop-at invariant-loop decreases-loop
 mul-w0-2 c =
@@ -160,7 +160,7 @@ returns-6 : tie.Need-returns-then-at-start invariant-loop decreases-loop
 returns-6 c =
     let l = c.loop-at in
     let q = st l.left (l.at - l.start) l.w0 l.w1 l.w2 l.w3 in
-    rw c.bad-then-at-start.ensures (parses _ (Bad l.at Empty) (sym l.invariant.4 ∙ loop_early walk q _ l.at Empty c.loop-at-test.false (end_empty q (omega (arith, c.if-at-start.true)))))
+    rw c.bad-then-at-start.ensures (parses _ (Err record { position = l.at; reason = Empty }) (sym l.invariant.4 ∙ loop_early walk q _ l.at Empty c.loop-at-test.false (end_empty q (omega (arith, c.if-at-start.true)))))
 
 bad-requires-7 : tie.Need-bad-requires-then-left-gt0 invariant-loop decreases-loop
 bad-requires-7 c κs = search rules
@@ -169,13 +169,13 @@ returns-7 : tie.Need-returns-then-left-gt0 invariant-loop decreases-loop
 returns-7 c =
     let l = c.loop-at in
     let q = st l.left (l.at - l.start) l.w0 l.w1 l.w2 l.w3 in
-    rw c.bad-then-left-gt0.ensures (parses _ (Bad l.at FieldCount) (sym l.invariant.4 ∙ loop_early walk q _ l.at FieldCount c.loop-at-test.false (end_few q (apart l.at l.start l.invariant.1 c.if-at-start.false) c.if-left-gt0.true)))
+    rw c.bad-then-left-gt0.ensures (parses _ (Err record { position = l.at; reason = FieldCount }) (sym l.invariant.4 ∙ loop_early walk q _ l.at FieldCount c.loop-at-test.false (end_few q (apart l.at l.start l.invariant.1 c.if-at-start.false) c.if-left-gt0.true)))
 
 returns-8 : tie.Need-returns invariant-loop decreases-loop
 returns-8 c =
     let l = c.loop-at in
     let q = st l.left (l.at - l.start) l.w0 l.w1 l.w2 l.w3 in
-    parses _ (Read (guid_of l.w0 l.w1 l.w2 l.w3)) (sym l.invariant.4 ∙ loop_read walk q _ l.at _ c.loop-at-test.false (end_read q (apart l.at l.start l.invariant.1 c.if-at-start.false) (omega (arith, c.if-left-gt0.false))))
+    parses _ (Ok (guid_of l.w0 l.w1 l.w2 l.w3)) (sym l.invariant.4 ∙ loop_read walk q _ l.at _ c.loop-at-test.false (end_read q (apart l.at l.start l.invariant.1 c.if-at-start.false) (omega (arith, c.if-left-gt0.false))))
 
 pub parse_spec : {M : Type 1} → statement M
 parse_spec =
