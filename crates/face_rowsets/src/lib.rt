@@ -12,6 +12,7 @@ use wire_read::rowset::Decoded;
 use words::outcome::{Outcome, taken};
 
 // How many rows and values were read, or the refusal, as document 01's number and values.
+// (No `From`: both `Outcome` and `Result` are of other crates.)
 fn decoded_outcome(answer: Result<Decoded, WireError>) -> Outcome
     ensures { Tells (paper_decoded answer) result }
 {

@@ -6,6 +6,7 @@ use wire::error::WireError;
 use words::outcome::{Outcome, taken};
 
 // The bytes filled, or the refusal, as document 01's number and values.
+// (No `From`: both `Outcome` and `Result` are of other crates.)
 pub fn outcome(answer: Result<u64, WireError>) -> Outcome
     ensures { Tells (paper_packed answer) result }
 {

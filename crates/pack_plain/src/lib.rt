@@ -92,9 +92,7 @@ fn move_all(values: &mut [u64])
     requires { (length values.old % entry_words ≡ 0) × (needed values.old < 2 ^ 64) }
     ensures { values.new ≡ packed values.old }
 {
-    let mut i = values.len() / ENTRY_WORDS;
-    while 0 < i {
-        i -= 1;
+    for i in (0..values.len() / ENTRY_WORDS).rev() {
         values[ENTRY_WORDS * i + 3] = new_word(values, i);
     }
 }

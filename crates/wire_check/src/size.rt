@@ -124,6 +124,7 @@ pub fn encoded_size(area: &[u8], rows: &[u64], values: &[u64]) -> Result<usize, 
 }
 
 // The size, or the refusal, as document 01's number and values.
+// (No `From`: both `Outcome` and `Result` are of other crates.)
 pub fn outcome(answer: Result<usize, WireError>) -> Outcome
     ensures { Tells (paper_measured answer) result }
 {

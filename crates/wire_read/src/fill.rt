@@ -25,12 +25,7 @@ pub(crate) fn read_payload(input: &[u8], at: usize, header: Header) -> Payload
         × (result.next ≡ next_value input.now at) }
 {
     match kind_of(header.kind as u64) {
-        Kind::Null => Payload {
-            fourth: 0,
-            fifth: 0,
-            next: at + WORD_SIZE,
-        },
-        Kind::Unknown => Payload {
+        Kind::Null | Kind::Unknown => Payload {
             fourth: 0,
             fifth: 0,
             next: at + WORD_SIZE,

@@ -53,8 +53,7 @@ fn plain_value(input: &[u8], at: usize) -> bool
         return false;
     }
     match kind_of(header.kind as u64) {
-        Kind::Null => header.length == 0,
-        Kind::Unknown => header.length == 0,
+        Kind::Null | Kind::Unknown => header.length == 0,
         Kind::Scalar => {
             if header.length != 0 {
                 return false;

@@ -229,6 +229,7 @@ fn bit(flag: bool) -> u64
 }
 
 // The value's five words and the next offset, or the refusal, as document 01's number and values.
+// (No `From`: both `Outcome` and `Result` are of other crates.)
 pub fn outcome(answer: Result<UnversionedValue, WireError>) -> Outcome
     ensures { Tells (paper_value answer) result }
 {

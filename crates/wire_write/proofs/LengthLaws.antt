@@ -1,6 +1,7 @@
 -- How long what is written is: the sizes that were measured. Assumes nothing.
 use mathlib.Core.Path.{◌≡◌, refl, sym, ◌∙◌, ap}
-use mathlib.Core.Bool.{true, false}
+use mathlib.Core.Bool.{true, false, true≢false}
+use mathlib.Core.Logic.{◌⊎◌, inl, inr}
 use mathlib.Core.List.{List, [], ◌∷◌, ◌++◌}
 use Prim.Native.Nat.{ℕ, zero, suc, ◌+◌, ◌*◌, ◌%◌, ◌<◌, ◌≤◌}
 use native.Mathlib.Omega.{arith}
@@ -11,7 +12,11 @@ use borrow.Author.Tests.{ltb-true, ltb-false, not-false, lt-ltb, le-ltb, ne_eqb}
 use Rattle.words.specs.Word.{bytes_of}
 use Rattle.words.specs.Buffer.{stretch}
 use Rattle.words.proofs.WordLaws.{length_bytes_of}
-use Rattle.wire.specs.Layout.{entry_words, blob, known, padding, padded, payload, values_in, payload_bytes, value_bytes, entry_bytes, values_bytes, row_bytes, rows_bytes, rowset_bytes}
+use Rattle.wire.specs.Layout.{null_type, entry_words, blob, known, padding, padded, payload, values_in, payload_bytes, value_bytes, entry_bytes, values_bytes, row_bytes, rows_bytes, rowset_bytes}
+use Rattle.wire.specs.Kind.{kind_of}
+use Rattle.wire.specs.declared.kind.Kind.{Kind}
+use Rattle.wire.specs.declared.kind.Kind.TheVariants as K
+use Rattle.wire.proofs.KindLaws.{kind_null, kind_unknown}
 use Rattle.wire.proofs.TypeLaws.{scalar_yes, scalar_low, blob_low, payload_none, payload_scalar}
 use Rattle.wire_check.specs.Writing.{total, bad, size_of, values_size, rows_size, rowset_size}
 use Rattle.wire_check.specs.Stages.{Good, Sound}
@@ -23,6 +28,10 @@ use Rattle.wire_check.proofs.TableLaws.{by_test, none_wrong}
 module _ (size id type aggregate bits n : ℕ) (good : bad size id type aggregate bits n ≡ false) where
   pub good_known : known type ≡ true
   good_known = not-false (known type) (none_wrong size id type aggregate bits n good).1
+
+  pub good_null : (k : Kind) → k ≡ kind_of type → (k ≡ K.Null) ⊎ (k ≡ K.Unknown) → type ≡ null_type
+  good_null k e (inl is) = kind_null type k e is
+  good_null k e (inr is) = absurd (true≢false (sym good_known ∙ (kind_unknown type k e is).0))
 
   pub good_blob : 7 ≤ type → blob type ≡ true
   good_blob h = rw (ne_eqb type 2 (λ e. omega arith), lt-ltb 2 type (omega arith), le-ltb type 7 h) at good_known

@@ -55,8 +55,7 @@ fn write_value(
 {
     write_u64(out, header(id, kind, aggregate, length));
     match kind_of(kind) {
-        Kind::Null => WORD_SIZE,
-        Kind::Unknown => WORD_SIZE,
+        Kind::Null | Kind::Unknown => WORD_SIZE,
         Kind::Scalar => {
             write_u64(&mut out[WORD_SIZE..], bits);
             WORD_SIZE + WORD_SIZE
@@ -155,6 +154,7 @@ pub fn encode_rowset(
 }
 
 // The bytes written, or the refusal, as document 01's number and values.
+// (No `From`: both `Outcome` and `Result` are of other crates.)
 pub fn outcome(answer: Result<usize, WireError>) -> Outcome
     ensures { Tells (paper_encoded answer) result }
 {
