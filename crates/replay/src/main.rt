@@ -30,17 +30,8 @@ fn read_full<R: Read>(reader: &mut R, buffer: &mut [u8]) -> usize
 }
 
 fn lines<W: Write>(to: &mut W, input: &[u8]) {
-    let mut start = 0;
-    while start < input.len() {
-        let end = read::find(input, start, b'\n');
-        run::case(to, read::cut(input, start, end));
-        if end < start {
-            return;
-        }
-        if input.len() <= end {
-            return;
-        }
-        start = end + 1;
+    for line in input.split_inclusive(|byte| *byte == b'\n') {
+        run::case(to, line.strip_suffix(b"\n").unwrap_or(line));
     }
 }
 

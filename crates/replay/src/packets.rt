@@ -1,6 +1,6 @@
 // The cases of packets, in archive mode and, by the names that end in `-live`, in live mode.
 use crate::read::{
-    buffer, bytes_into, cut, front, is, least, number, output, table, word, words_into,
+    buffer, bytes_into, cut, entries_words, front, number, output, table, word, words_into,
 };
 use crate::run::{id_of, say_id, truth};
 use crate::say;
@@ -18,13 +18,6 @@ const ARCHIVE: u64 = 0;
 
 const LIVE: u64 = 1;
 
-fn entries_words(entries: u64) -> usize {
-    if entries < 0x1_0000_0000 {
-        return ENTRY_WORDS * (entries as usize);
-    }
-    0xffff_ffff
-}
-
 fn say_packet<W: Write>(to: &mut W, parts: &[u64], outcome: Outcome) {
     if !say::consumed(to, outcome) {
         say::kept_words(to, parts, 0);
@@ -36,7 +29,7 @@ fn say_packet<W: Write>(to: &mut W, parts: &[u64], outcome: Outcome) {
     say_id(to, outcome.v2, outcome.v3, outcome.v4, outcome.v5);
     say::number(to, outcome.v6);
     say::parts(to, parts, outcome.v6 as usize);
-    say::kept_words(to, parts, entries_words(outcome.v6));
+    say::kept_words(to, parts, entries_words(outcome.v6, ENTRY_WORDS));
 }
 
 // Part tables of so many words, or all of the table where it is shorter: no case of the list fills that.
@@ -50,7 +43,7 @@ fn decode_with_into<W: Write>(
     parts: &mut [u64],
     words: usize,
 ) {
-    let lent = least(words, parts.len());
+    let lent = words.min(parts.len());
     let outcome = cablefinch_decode_with(mode, input, limit, ceiling, &mut parts[..lent]);
     say_packet(to, &parts[..lent], outcome);
 }
@@ -63,7 +56,7 @@ fn decode_into<W: Write>(
     parts: &mut [u64],
     words: usize,
 ) {
-    let lent = least(words, parts.len());
+    let lent = words.min(parts.len());
     let outcome = cablefinch_decode(mode, input, limit, &mut parts[..lent]);
     say_packet(to, &parts[..lent], outcome);
 }
@@ -74,7 +67,7 @@ fn packet<W: Write>(to: &mut W, mode: u64, line: &[u8]) {
     let count = bytes_into(&mut space, word(line, 4));
     let limit = number(word(line, 1));
     let ceiling = (number(word(line, 2)) % 0x1_0000_0000) as u32;
-    let words = entries_words(number(word(line, 3)));
+    let words = entries_words(number(word(line, 3)), ENTRY_WORDS);
     decode_with_into(
         to,
         mode,
@@ -91,7 +84,7 @@ fn packet_default<W: Write>(to: &mut W, mode: u64, line: &[u8]) {
     let mut parts = table();
     let count = bytes_into(&mut space, word(line, 3));
     let limit = number(word(line, 1));
-    let words = entries_words(number(word(line, 2)));
+    let words = entries_words(number(word(line, 2)), ENTRY_WORDS);
     decode_into(to, mode, cut(&space, 0, count), limit, &mut parts, words);
 }
 
@@ -170,7 +163,7 @@ fn encode_into<W: Write>(
     let wire = id_of(word(line, 3));
     let kind = number(word(line, 1));
     let flags = flags(number(word(line, 2)));
-    let room = least(number(word(line, 4)) as usize, out.len());
+    let room = (number(word(line, 4)) as usize).min(out.len());
     let outcome = cablefinch_encode(mode, kind, flags, &wire, area, parts, &mut out[..room]);
     say_written(to, &out[..room], outcome);
 }
@@ -193,32 +186,20 @@ fn packet_write<W: Write>(to: &mut W, mode: u64, line: &[u8]) {
 
 // Whether the case is one of these.
 pub(crate) fn answered<W: Write>(to: &mut W, line: &[u8], kind: &[u8]) -> bool {
-    if is(kind, b"packet") {
-        packet(to, ARCHIVE, line);
-    } else if is(kind, b"packet-live") {
-        packet(to, LIVE, line);
-    } else if is(kind, b"packet-default") {
-        packet_default(to, ARCHIVE, line);
-    } else if is(kind, b"packet-default-live") {
-        packet_default(to, LIVE, line);
-    } else if is(kind, b"packet-write") {
-        packet_write(to, ARCHIVE, line);
-    } else if is(kind, b"packet-write-live") {
-        packet_write(to, LIVE, line);
-    } else if is(kind, b"packet-size") {
-        packet_size(to, ARCHIVE, line);
-    } else if is(kind, b"packet-size-live") {
-        packet_size(to, LIVE, line);
-    } else if is(kind, b"validate") {
-        validate(to, ARCHIVE, line);
-    } else if is(kind, b"validate-live") {
-        validate(to, LIVE, line);
-    } else if is(kind, b"part") {
-        part(to, line);
-    } else if is(kind, b"contains") {
-        contains(to, line);
-    } else {
-        return false;
+    match kind {
+        b"packet" => packet(to, ARCHIVE, line),
+        b"packet-live" => packet(to, LIVE, line),
+        b"packet-default" => packet_default(to, ARCHIVE, line),
+        b"packet-default-live" => packet_default(to, LIVE, line),
+        b"packet-write" => packet_write(to, ARCHIVE, line),
+        b"packet-write-live" => packet_write(to, LIVE, line),
+        b"packet-size" => packet_size(to, ARCHIVE, line),
+        b"packet-size-live" => packet_size(to, LIVE, line),
+        b"validate" => validate(to, ARCHIVE, line),
+        b"validate-live" => validate(to, LIVE, line),
+        b"part" => part(to, line),
+        b"contains" => contains(to, line),
+        _ => return false,
     }
     true
 }

@@ -28,59 +28,22 @@ pub(crate) fn values_table() -> [u64; 2_560]
     [0xa5a5_a5a5_a5a5_a5a5; 2_560]
 }
 
-// The first place from `from` on where `byte` stands, or the end.
-pub(crate) fn find(text: &[u8], from: usize, byte: u8) -> usize {
-    for i in from..text.len() {
-        if text[i] == byte {
-            return i;
-        }
-    }
-    from.max(text.len())
-}
-
 // The stretch of `text` from `from` to `end`; nothing where there is none.
 pub(crate) fn cut<'a>(text: &'a [u8], from: usize, end: usize) -> &'a [u8] {
-    if end < from {
-        return &text[..0];
-    }
-    if text.len() < end {
-        return &text[..0];
-    }
-    &text[from..end]
-}
-
-fn next_word(line: &[u8], from: usize) -> usize {
-    let end = find(line, from, b' ');
-    if end < line.len() {
-        return end + 1;
-    }
-    line.len()
-}
-
-fn start_of(line: &[u8], index: usize) -> usize {
-    let mut start = 0;
-    for _ in 0..index {
-        start = next_word(line, start);
-    }
-    start
+    text.get(from..end).unwrap_or(&[])
 }
 
 // The word of a line that has so many before it.
 pub(crate) fn word<'a>(line: &'a [u8], index: usize) -> &'a [u8] {
-    let from = start_of(line, index);
-    cut(line, from, find(line, from, b' '))
-}
-
-pub(crate) fn is(text: &[u8], name: &[u8]) -> bool {
-    text == name
+    line.split(|byte| *byte == b' ').nth(index).unwrap_or(&[])
 }
 
 fn digit(byte: u8) -> u8
     ensures { result < 16 }
 {
     match byte {
-        48..=57 => byte - 48,
-        97..=102 => byte - 87,
+        b'0'..=b'9' => byte - b'0',
+        b'a'..=b'f' => byte - b'a' + 10,
         _ => 0,
     }
 }
@@ -93,11 +56,7 @@ fn appended(number: u64, last: u8) -> u64 {
 }
 
 pub(crate) fn number(text: &[u8]) -> u64 {
-    let mut number = 0;
-    for byte in text {
-        number = appended(number, digit(*byte));
-    }
-    number
+    text.iter().fold(0, |number, byte| appended(number, digit(*byte)))
 }
 
 fn pair(high: u8, low: u8) -> u8 {
@@ -109,8 +68,8 @@ fn hex_into(out: &mut [u8], text: &[u8]) -> usize {
     if out.len() < count {
         return 0;
     }
-    for i in 0..count {
-        out[i] = pair(text[2 * i], text[2 * i + 1]);
+    for (byte, digits) in out.iter_mut().zip(text.chunks_exact(2)) {
+        *byte = pair(digits[0], digits[1]);
     }
     count
 }
@@ -122,48 +81,37 @@ fn zeros_into(out: &mut [u8], count: usize) -> usize {
 
 // BYTES: hex, `-` or `zN`, over the front of `out`; how many they are.
 pub(crate) fn bytes_into(out: &mut [u8], text: &[u8]) -> usize {
-    if text.len() == 0 {
-        return 0;
+    match text {
+        [] | [b'-', ..] => 0,
+        [b'z', count @ ..] => zeros_into(out, number(count) as usize),
+        _ => hex_into(out, text),
     }
-    if text[0] == b'-' {
-        return 0;
-    }
-    if text[0] == b'z' {
-        return zeros_into(out, number(cut(text, 1, text.len())) as usize);
-    }
-    hex_into(out, text)
 }
 
 // WORDS: numbers with commas between, or `-`, over the front of `out`; how many they are.
 pub(crate) fn words_into(out: &mut [u64], text: &[u8]) -> usize {
-    if is(text, b"-") {
+    if matches!(text, [b'-']) {
         return 0;
     }
-    let mut at = 0;
-    for i in 0..out.len() {
-        if text.len() <= at {
-            return i;
-        }
-        let end = find(text, at, b',');
-        out[i] = number(cut(text, at, end));
-        if text.len() <= end {
-            return i + 1;
-        }
-        at = end + 1;
+    let mut count = 0;
+    for (word, part) in out.iter_mut().zip(text.split_inclusive(|byte| *byte == b',')) {
+        *word = number(part.strip_suffix(b",").unwrap_or(part));
+        count += 1;
     }
-    out.len()
-}
-
-pub(crate) fn least(a: usize, b: usize) -> usize
-    ensures { result ≤ b }
-{
-    if a < b { a } else { b }
+    count
 }
 
 // The first `count` words of a table, or all of it where it is shorter.
 pub(crate) fn front<'a>(table: &'a [u64], count: usize) -> &'a [u64] {
-    if table.len() < count {
-        return table;
+    table.get(..count).unwrap_or(table)
+}
+
+// The words of so many entries, or more than any table has.
+pub(crate) fn entries_words(entries: u64, entry_words: usize) -> usize
+    requires { entry_words ≤ 5 }
+{
+    if entries < 0x1_0000_0000 {
+        return entry_words * (entries as usize);
     }
-    &table[..count]
+    0xffff_ffff
 }

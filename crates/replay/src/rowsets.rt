@@ -1,7 +1,7 @@
 // The cases of rowsets.
 use crate::packets::say_written;
 use crate::read::{
-    buffer, bytes_into, cut, front, is, least, number, output, table, values_table, word,
+    buffer, bytes_into, cut, entries_words, front, number, output, table, values_table, word,
     words_into,
 };
 use crate::run::truth;
@@ -14,13 +14,6 @@ use std::io::Write;
 use wire::layout::ENTRY_WORDS;
 use words::outcome::Outcome;
 
-fn entries_words(entries: u64) -> usize {
-    if entries < 0x1_0000_0000 {
-        return ENTRY_WORDS * (entries as usize);
-    }
-    0xffff_ffff
-}
-
 fn say_rowset<W: Write>(to: &mut W, rows: &[u64], values: &[u64], outcome: Outcome) {
     if !say::accepted(to, outcome) {
         say::kept_words(to, rows, 0);
@@ -28,7 +21,7 @@ fn say_rowset<W: Write>(to: &mut W, rows: &[u64], values: &[u64], outcome: Outco
         return;
     }
     let row_words = outcome.v0 as usize;
-    let value_words = entries_words(outcome.v1);
+    let value_words = entries_words(outcome.v1, ENTRY_WORDS);
     say::number(to, outcome.v0);
     say::number(to, outcome.v1);
     say::words(to, rows, row_words);
@@ -46,8 +39,8 @@ fn decode_into<W: Write>(
     values: &mut [u64],
     value_words: usize,
 ) {
-    let row_count = least(row_words, rows.len());
-    let value_count = least(value_words, values.len());
+    let row_count = row_words.min(rows.len());
+    let value_count = value_words.min(values.len());
     let outcome = cablefinch_decode_rowset(
         input,
         &mut rows[..row_count],
@@ -62,7 +55,7 @@ fn rowset<W: Write>(to: &mut W, line: &[u8]) {
     let mut values = values_table();
     let count = bytes_into(&mut space, word(line, 3));
     let row_words = number(word(line, 1)) as usize;
-    let value_words = entries_words(number(word(line, 2)));
+    let value_words = entries_words(number(word(line, 2)), ENTRY_WORDS);
     decode_into(
         to,
         cut(&space, 0, count),
@@ -99,7 +92,7 @@ fn encode_into<W: Write>(
     out: &mut [u8],
     room: usize,
 ) {
-    let lent = least(room, out.len());
+    let lent = room.min(out.len());
     let outcome = cablefinch_encode_rowset(area, rows, values, &mut out[..lent]);
     say_written(to, &out[..lent], outcome);
 }
@@ -148,18 +141,13 @@ fn plain<W: Write>(to: &mut W, line: &[u8]) {
 
 // Whether the case is one of these.
 pub(crate) fn answered<W: Write>(to: &mut W, line: &[u8], kind: &[u8]) -> bool {
-    if is(kind, b"rowset") {
-        rowset(to, line);
-    } else if is(kind, b"rowset-write") {
-        rowset_write(to, line);
-    } else if is(kind, b"rowset-size") {
-        rowset_size(to, line);
-    } else if is(kind, b"value") {
-        value(to, line);
-    } else if is(kind, b"plain") {
-        plain(to, line);
-    } else {
-        return false;
+    match kind {
+        b"rowset" => rowset(to, line),
+        b"rowset-write" => rowset_write(to, line),
+        b"rowset-size" => rowset_size(to, line),
+        b"value" => value(to, line),
+        b"plain" => plain(to, line),
+        _ => return false,
     }
     true
 }

@@ -2,7 +2,7 @@
 // filled with bytes 0xa5 before the call.
 ghost use Rattle.std.specs.Prelude.{◌≡◌, length};
 
-use crate::read::{buffer, bytes_into, cut, is, word};
+use crate::read::{buffer, bytes_into, cut, word};
 use crate::{packets, rowsets, say};
 use face_checksums::{cablefinch_checksum, cablefinch_finish, cablefinch_update};
 use face_ids::{
@@ -27,10 +27,7 @@ fn updated(register: u64, text: &[u8]) -> u64 {
 
 // At most eight stretches.
 fn crc<W: Write>(to: &mut W, line: &[u8]) {
-    let mut register = 0;
-    for index in 1..9 {
-        register = updated(register, word(line, index));
-    }
+    let register = (1..9).fold(0, |register, index| updated(register, word(line, index)));
     say::text(to, b"ok");
     say::checksum(to, cablefinch_finish(register));
 }
@@ -82,7 +79,7 @@ fn guid_read<W: Write>(to: &mut W, line: &[u8]) {
 }
 
 pub(crate) fn truth<W: Write>(to: &mut W, yes: bool) {
-    say::number(to, if yes { 1 } else { 0 });
+    say::number(to, u64::from(yes));
 }
 
 fn guid_parts<W: Write>(to: &mut W, line: &[u8]) {
@@ -100,18 +97,13 @@ fn guid_parts<W: Write>(to: &mut W, line: &[u8]) {
 }
 
 fn others<W: Write>(to: &mut W, line: &[u8], kind: &[u8]) {
-    if is(kind, b"crc") {
-        crc(to, line);
-    } else if is(kind, b"checksum") {
-        checksum(to, line);
-    } else if is(kind, b"guid-print") {
-        guid_print(to, line);
-    } else if is(kind, b"guid-read") {
-        guid_read(to, line);
-    } else if is(kind, b"guid-parts") {
-        guid_parts(to, line);
-    } else {
-        say::text(to, b"bad case");
+    match kind {
+        b"crc" => crc(to, line),
+        b"checksum" => checksum(to, line),
+        b"guid-print" => guid_print(to, line),
+        b"guid-read" => guid_read(to, line),
+        b"guid-parts" => guid_parts(to, line),
+        _ => say::text(to, b"bad case"),
     }
 }
 

@@ -71,37 +71,26 @@ fn part<W: Write>(to: &mut W, offset: u64, length: u64, sum: u64) {
 
 // The first `count` entries of a part table.
 pub(crate) fn parts<W: Write>(to: &mut W, table: &[u64], count: usize) {
-    for i in 0..count.min(table.len() / packet::ENTRY_WORDS) {
-        part(
-            to,
-            table[packet::ENTRY_WORDS * i],
-            table[packet::ENTRY_WORDS * i + 1],
-            table[packet::ENTRY_WORDS * i + 2],
-        );
+    for entry in table.chunks_exact(packet::ENTRY_WORDS).take(count) {
+        part(to, entry[0], entry[1], entry[2]);
     }
 }
 
 // Whether the words from `from` on hold what they were filled with.
 pub(crate) fn kept_words<W: Write>(to: &mut W, table: &[u64], from: usize) {
-    for i in from..table.len() {
-        if table[i] != 0xa5a5_a5a5_a5a5_a5a5 {
-            text(to, b" touched");
-            return;
-        }
+    if table.iter().skip(from).any(|word| *word != 0xa5a5_a5a5_a5a5_a5a5) {
+        text(to, b" touched");
     }
 }
 
 pub(crate) fn kept_bytes<W: Write>(to: &mut W, buffer: &[u8], from: usize) {
-    for i in from..buffer.len() {
-        if buffer[i] != 0xa5 {
-            text(to, b" touched");
-            return;
-        }
+    if buffer.iter().skip(from).any(|byte| *byte != 0xa5) {
+        text(to, b" touched");
     }
 }
 
 // How many values a refusal carries, by its number.
-fn carried(refusal: u64) -> u64 {
+fn carried(refusal: u64) -> usize {
     match refusal {
         1..=3 | 10 | 12..=15 | 24 => 1,
         4..=6 | 8..=9 | 11 | 16 | 18 => 2,
@@ -110,47 +99,40 @@ fn carried(refusal: u64) -> u64 {
 }
 
 fn values<W: Write>(to: &mut W, outcome: Outcome) {
-    let count = carried(outcome.number);
-    if 0 < count {
-        number(to, outcome.v0);
-    }
-    if 1 < count {
-        number(to, outcome.v1);
-    }
-    if 2 < count {
-        number(to, outcome.v2);
+    let three = [outcome.v0, outcome.v1, outcome.v2];
+    for value in three.iter().take(carried(outcome.number)) {
+        number(to, *value);
     }
 }
 
-// `more`, or a refusal without the bytes consumed; nothing for what is accepted. Whether it is accepted.
+// `more`, or a refusal, of which `between` says what stands before its values; nothing for what is accepted. Whether it
+// is accepted.
+fn told<W: Write, F: FnOnce(&mut W)>(to: &mut W, outcome: Outcome, between: F) -> bool {
+    match outcome.kind {
+        ACCEPTED => {
+            text(to, b"ok");
+            true
+        }
+        MORE => {
+            text(to, b"more");
+            false
+        }
+        _ => {
+            text(to, b"refused");
+            number(to, outcome.number);
+            between(to);
+            values(to, outcome);
+            false
+        }
+    }
+}
+
+// A refusal without the bytes consumed.
 pub(crate) fn accepted<W: Write>(to: &mut W, outcome: Outcome) -> bool {
-    if outcome.kind == ACCEPTED {
-        text(to, b"ok");
-        return true;
-    }
-    if outcome.kind == MORE {
-        text(to, b"more");
-        return false;
-    }
-    text(to, b"refused");
-    number(to, outcome.number);
-    values(to, outcome);
-    false
+    told(to, outcome, |_| ())
 }
 
 // The same with the bytes consumed.
 pub(crate) fn consumed<W: Write>(to: &mut W, outcome: Outcome) -> bool {
-    if outcome.kind == ACCEPTED {
-        text(to, b"ok");
-        return true;
-    }
-    if outcome.kind == MORE {
-        text(to, b"more");
-        return false;
-    }
-    text(to, b"refused");
-    number(to, outcome.number);
-    number(to, outcome.count);
-    values(to, outcome);
-    false
+    told(to, outcome, |to| number(to, outcome.count))
 }
