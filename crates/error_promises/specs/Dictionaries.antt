@@ -53,4 +53,5 @@ abbrev pub DictionariesAddUp : Type 0
 DictionariesAddUp =
     (s table rows table' rows' : List ℕ) (c : Counted) → Decodes s table rows (Ok c) table' rows'
     → (c.errors ≡ length (messages s))
-    × ((i : ℕ) → i < c.errors → of_error i (rows_over s rows' c.attributes) ≡ dictionaries_of i s (get_or (messages s) i []))
+    × ((i : ℕ) → i < c.errors
+    → of_error i (rows_over s rows' c.attributes) ≡ dictionaries_of i s (get_or (messages s) i []))

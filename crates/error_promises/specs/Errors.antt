@@ -23,7 +23,8 @@ pub record Roomy (s errors attributes : List ℕ) : Type 0 where
 -- `decode_error` reads exactly the inputs that are a TError, into tables that hold it
 abbrev pub ErrorAcceptsExactly : Type 0
 ErrorAcceptsExactly =
-    (s errors attributes errors' attributes' : List ℕ) (r : Result Counted ErrorRefusal) → Decodes s errors attributes r errors' attributes'
+    (s errors attributes errors' attributes' : List ℕ) (r : Result Counted ErrorRefusal)
+    → Decodes s errors attributes r errors' attributes'
     → (WellFormed s → Roomy s errors attributes
     → r ≡ Ok record { errors = error_count (tree s); attributes = attribute_count (tree s) })
     × ((c : Counted) → r ≡ Ok c

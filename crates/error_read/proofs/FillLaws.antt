@@ -82,12 +82,6 @@ module _ {known : ℕ} {s : List ℕ} {start end at : ℕ} {own : Own} (left : S
         p2_left = latest_on known s at end f whole (content_at s) 2 own.place2 f.content whole.4 own'.place2 d ∙ left.p2_left;
       }
 
-pub chosen : (number wanted new old : ℕ) → number ≡ wanted → new ≡ pick (number =? wanted) new old
-chosen number wanted new old h = rw (eq-eqb number wanted h)
-
-pub kept : (number wanted new old : ℕ) → (number ≡ wanted → ⊥) → old ≡ pick (number =? wanted) new old
-kept number wanted new old h = rw (ne_eqb number wanted h)
-
 -- A table while it is filled: `left` goes to k on, and then it holds `all` from `first` on
 pub record Storing (xs now : List ℕ) (first k : ℕ) (all left : List ℕ) : Type 0 where
   pub sum : k + length left ≡ first + length all
@@ -136,13 +130,6 @@ module _ (s : List ℕ) (at : ℕ) (f : Field) (lies : Lies s at f) (i k : ℕ) 
         let c : k + 3 ≡ suc (suc (suc k)) = omega arith in
         let d : k + 4 ≡ suc (suc (suc (suc k))) = omega arith in
         rw (eq-eqb (number_at s at) 1 (sym lies.0 ∙ one), ← lies.1, ← lies.2, ← scan.place1, ← scan.value1, ← scan.place2, ← scan.value2, a, b, c, d) (refl, refl)
-
-pub four_stored : (xs : List ℕ) (k a b c d : ℕ) → set (set (set (set xs k a) (k + 1) b) (k + 2) c) (k + 3) d ≡ sets xs k (a ∷ b ∷ c ∷ d ∷ [])
-four_stored xs k a b c d =
-    let one : k + 1 ≡ suc k = omega arith in
-    let two : k + 2 ≡ suc (suc k) = omega arith in
-    let three : k + 3 ≡ suc (suc (suc k)) = omega arith in
-    rw (one, two, three)
 
 -- a dictionary: the words of its first field, then the others
 pub dictionary_next : (i : ℕ) (s : List ℕ) (at end stop : ℕ) → fields dictionary_fields s at end ≡ at ∷ fields dictionary_fields s stop end

@@ -127,7 +127,8 @@ fn put_error(errors: &mut [u64], next: usize, code: u64, depth: u64, place: u64,
     errors[k + 3] = size;
 }
 
-// What a field of the error number `index` holds, at `depth`, to `first` on; `left` levels are allowed below that error.
+// What a field of the error number `index` holds, at `depth`, to `first` on; `left` levels are allowed below that
+// error.
 #[cycle(fill_held_fill_inside)]
 fn fill_inside(
     input: &[u8],

@@ -17,9 +17,6 @@ use Rattle.error_table.specs.Statement.{FindsFirst, ChecksTables}
 use Rattle.std.specs.declared.option.Option.TheVariants.{Some, None}
 use Rattle.std.specs.declared.result.Result.TheVariants.{Ok, Err}
 
-pub outside_long : (size offset n : ℕ) → size < n → true ≡ outside size offset n
-outside_long size offset n h = sym (lt-ltb size (offset + n) (omega arith))
-
 -- two tests that say the same
 same_test : (a b c d : ℕ) → (a < b → c < d) → (b ≤ a → d ≤ c) → (a <? b) ≡ (c <? d)
 same_test a b c d f g =

@@ -1,7 +1,8 @@
 // 18, in its order: both tables' widths, no error, then the first bad entry, errors before attributes.
 ghost use Rattle.std.specs.Prelude.{◌≡◌, ◌+◌, ◌*◌, ◌≤◌, length};
 ghost use Rattle.error_tree.specs.Reading.{error_entry, attribute_entry};
-ghost use Rattle.error_table.specs.Table.{errors_in, attributes_in, outside, bad_depth, bad_error, first_bad_error, bad_attribute, first_bad_attribute};
+ghost use Rattle.error_table.specs.Table.{errors_in, attributes_in, outside, bad_depth, bad_error, first_bad_error};
+ghost use Rattle.error_table.specs.Table.{bad_attribute, first_bad_attribute};
 ghost use Rattle.error_table.specs.Statement.{FindsFirst, ChecksTables};
 
 use error_tree::refusal::ErrorRefusal;

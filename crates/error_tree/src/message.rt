@@ -1,4 +1,5 @@
-// A field of one of the three messages: those that the message knows have a type of their own.
+// A field of one of the three messages: those that the message knows have a type of their own. A message goes by how
+// many fields it knows, as in the definitions of its fields (`fields`, `whole_in`).
 ghost use Rattle.error_tree.specs.Statement.{TypesField, ReadsKnown};
 
 use field::field::{Field, read_field};

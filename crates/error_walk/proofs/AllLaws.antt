@@ -1,7 +1,7 @@
 -- Laws of the whole of the first walk. Assumes nothing.
 use mathlib.Core.Path.{sym, ◌∙◌}
 use mathlib.Core.List.{List}
-use Prim.Native.Nat.{ℕ, ◌+◌, ◌≤◌}
+use Prim.Native.Nat.{ℕ, ◌+◌}
 use native.Mathlib.Omega.{arith}
 use lib.ListN.{length}
 use Rattle.error_tree.specs.Message.{error_fields, fields}
@@ -19,9 +19,6 @@ module _ (s : List ℕ) where
   all_stopped refusal stops = stops
 
   module _ (c : Counted) (passes : WalksError levels s 0 (length s) (Ok c)) where
-    pub count_fits : c.errors + c.attributes ≤ length s
-    count_fits = omega (arith, passes.2)
-
     -- the outermost error is one more
     pub all_counted : Counts s (Ok record { errors = 1 + c.errors; attributes = c.attributes })
     all_counted =

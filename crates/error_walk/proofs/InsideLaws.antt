@@ -98,10 +98,3 @@ module _ (s : List ℕ) (at : ℕ) (f : Field) (lies : Lies s at f) where
               let es : c.errors ≡ error_count (parts (left - 1) s fs) = passes.0 ∙ sym (parts_errors (left - 1) s fs) in
               let «as» : c.attributes ≡ attribute_count (parts (left - 1) s fs) = passes.1 ∙ sym (parts_attributes (left - 1) s fs) in
               rw (level, four_at, ← lies.1, ← lies.2) (omega arith, omega arith, omega arith, passes.3)
-
-          pub inside_few : c.errors + 1 ≤ f.stop
-          inside_few =
-              let low : at < f.content = lies.3 in
-              let high : f.content ≤ f.stop = lies.4 in
-              let few : c.errors + c.attributes ≤ f.stop - f.content = passes.2 in
-              omega arith

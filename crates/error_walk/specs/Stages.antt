@@ -23,7 +23,8 @@ NextField known s at end (Err refusal) = (refusal ≡ BadMessage at) × ReadsKno
 -- one for each of so many bytes; else the refusal, whatever follows.
 abbrev pub Walk : (Answer → Answer) → ℕ → ℕ → ℕ → Result Counted ErrorRefusal → Type 0
 Walk checks errors attributes bytes (Ok c) =
-    (c.errors ≡ errors) × (c.attributes ≡ attributes) × (c.errors + c.attributes ≤ bytes) × ((rest : Answer) → checks rest ≡ rest)
+    (c.errors ≡ errors) × (c.attributes ≡ attributes) × (c.errors + c.attributes ≤ bytes)
+    × ((rest : Answer) → checks rest ≡ rest)
 Walk checks errors attributes bytes (Err refusal) = (rest : Answer) → checks rest ≡ paper refusal
 
 -- so much for each field
@@ -32,7 +33,8 @@ sum_of f [] = 0
 sum_of f (at ∷ others) = f at + sum_of f others
 
 -- the message from `at` to `end`: the checks of each field's inside, and how many errors and attributes are in it
-abbrev pub WalksMessage : (ℕ → Answer → Answer) → (ℕ → ℕ) → (ℕ → ℕ) → ℕ → List ℕ → ℕ → ℕ → Result Counted ErrorRefusal → Type 0
+abbrev pub WalksMessage : (ℕ → Answer → Answer) → (ℕ → ℕ) → (ℕ → ℕ) → ℕ → List ℕ → ℕ → ℕ
+    → Result Counted ErrorRefusal → Type 0
 WalksMessage each errors attributes known s at end r =
     Walk (check_message each known s at end) (sum_of errors (fields known s at end))
     (sum_of attributes (fields known s at end)) (end - at) r

@@ -1,7 +1,8 @@
 // Front to back, each field finished with all inside it before the next begins: document 02's "as met".
 ghost use Rattle.std.specs.Prelude.{◌≤◌, length};
 ghost use Rattle.error_tree.specs.Statement.{Lies};
-ghost use Rattle.error_walk.specs.Stages.{NextField, WalksAttribute, WalksEntry, WalksDictionary, WalksInside, WalksError};
+ghost use Rattle.error_walk.specs.Stages.{NextField, WalksAttribute, WalksEntry, WalksDictionary, WalksInside};
+ghost use Rattle.error_walk.specs.Stages.{WalksError};
 ghost use Rattle.error_walk.specs.Statement.{Counts};
 
 use error_tree::message::{ATTRIBUTE_FIELDS, DICTIONARY_FIELDS, ERROR_FIELDS, read_known};

@@ -8,8 +8,8 @@ use lib.ListN.{length, set, length-append, take, drop}
 use borrow.Rule.Slice.PartMut.{mid_of, put_mid}
 use Rattle.words.specs.Buffer.{fitted, stretch}
 use Rattle.words.specs.Stages.{Filling}
-use Rattle.words.proofs.BufferLaws.{over_store, length_over}
-use Rattle.words.proofs.FillingLaws.{begins, opens, ends, room_left, length_now, place, mid_fits, leaves, step, closes}
+use Rattle.words.proofs.BufferLaws.{over_store}
+use Rattle.words.proofs.FillingLaws.{begins, opens, ends, room_left, place, mid_fits, leaves, step, closes}
 use Rattle.varint.specs.Varint.{varint}
 use borrow.Author.Tests.{eq-eqb, ne_eqb}
 use Rattle.error_table.specs.Table.{code_in, text_in, text_length_in, attributes_in, index_in, key_in, key_length_in, value_in, value_length_in}
@@ -53,10 +53,6 @@ module _ (tag n : ℕ) (before : List ℕ) (room : length (lead tag n) ≤ lengt
 
   pub lead_place : 1 ≤ length (set before 0 tag)
   lead_place = two_place (tag ∷ []) (varint n) before (set before 0 tag) 1 room stored
-
-  pub lead_same : (after : List ℕ) (r : ℕ) → r ≡ length (varint n) → after ≡ fitted (varint n) (mid_of 1 (length (set before 0 tag) - 1) (set before 0 tag))
-      → length (put_mid 1 (length (set before 0 tag) - 1) (set before 0 tag) after) ≡ length before
-  lead_same after r is e = ap length (two_left (tag ∷ []) (varint n) before (set before 0 tag) 1 room stored after r is e).1 ∙ length_over (lead tag n) before room
 
   pub lead_put : (after : List ℕ) (r : ℕ) → r ≡ length (varint n) → after ≡ fitted (varint n) (mid_of 1 (length (set before 0 tag) - 1) (set before 0 tag))
       → Puts (lead tag n) before (put_mid 1 (length (set before 0 tag) - 1) (set before 0 tag) after) (1 + r)
@@ -154,9 +150,6 @@ module _ (area attributes : List ℕ) (i : ℕ) where
     put_all h =
         let done : Filling (entries_bytes area attributes (all_rows attributes i)) [] before now at = rw (rows_end attributes i till k h) at p.filling in
         (sym done.reached ∙ ap length (sym (append-nil done.done) ∙ done.joins), ends done)
-
-    pub put_same : length now ≡ length before
-    put_same = length_now p.filling
 
     module _ (more : k < till) where
       next : Filling (entries_bytes area attributes (all_rows attributes i)) (row_bytes area attributes i k ++ entries_bytes area attributes (rows_of attributes i (till - (k + 1)) (k + 1))) before now at

@@ -1,6 +1,6 @@
 -- Laws of the rows that an error has. Assumes nothing.
 use mathlib.Core.Path.{◌≡◌, refl, sym, ◌∙◌, ap}
-use mathlib.Core.Bool.{Bool, true, false, not}
+use mathlib.Core.Bool.{Bool, true, false}
 use mathlib.Core.Logic.{⊎_elim}
 use mathlib.Core.List.{List, []}
 use Prim.Native.Nat.{ℕ, zero, suc, ◌+◌, ◌-◌, ◌<◌, ◌≤◌}
@@ -131,11 +131,3 @@ pending_within attributes false i till p = omega arith
 pub pending_begin : (attributes : List ℕ) (sorted : Bool) (i till : ℕ) → TellsSorted attributes sorted → till ≡ attributes_in attributes → Pending attributes sorted i till
 pending_begin attributes true i till sorted e = (sorted, omega arith, (λ k low high. absurd (omega arith)))
 pending_begin attributes false i till sorted e = e
-
-pub not_true : (b : Bool) → not b ≡ true → b ≡ false
-not_true true h = sym h
-not_true false h = refl
-
-pub not_false : (b : Bool) → not b ≡ false → b ≡ true
-not_false true h = refl
-not_false false h = sym h

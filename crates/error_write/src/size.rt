@@ -7,7 +7,8 @@ ghost use Rattle.error_table.specs.Statement.{Sound};
 ghost use Rattle.error_write.specs.Written.{all_rows, error_bytes};
 ghost use Rattle.error_write.specs.Writing.{capped, needed};
 ghost use Rattle.error_write.specs.Statement.{Measures};
-ghost use Rattle.error_write.specs.Stages.{Covers, delimited_size, attribute_size, row_size, entries_size, dictionary_size, own_size, Sizes};
+ghost use Rattle.error_write.specs.Stages.{Covers, delimited_size, attribute_size, row_size, entries_size};
+ghost use Rattle.error_write.specs.Stages.{dictionary_size, own_size, Sizes};
 
 use super::rows::{first_row, is_sorted, row_before};
 use error_table::table::check_tables;
@@ -114,7 +115,7 @@ fn measure(area: &[u8], errors: &[u64], attributes: &[u64]) -> u64
     add_capped(own, sums[2])
 }
 
-// The same behind the checks of the tables.
+// The same behind the checks of the tables. It says besides that they are sound, which the writer asks for.
 pub(crate) fn size_checked(
     area: &[u8],
     errors: &[u64],

@@ -4,7 +4,8 @@ ghost use Rattle.words.specs.Buffer.{over, stretch};
 ghost use Rattle.error_tree.specs.Reading.{error_entry, attribute_entry};
 ghost use Rattle.error_table.specs.Table.{errors_in, attributes_in};
 ghost use Rattle.error_table.specs.Statement.{Sound};
-ghost use Rattle.error_write.specs.Written.{lead, delimited, attribute_bytes, all_rows, entries_bytes, dictionary_bytes, own_bytes, error_bytes};
+ghost use Rattle.error_write.specs.Written.{lead, delimited, attribute_bytes, all_rows, entries_bytes};
+ghost use Rattle.error_write.specs.Written.{dictionary_bytes, own_bytes, error_bytes};
 ghost use Rattle.error_write.specs.Statement.{Encodes};
 ghost use Rattle.error_write.specs.Stages.{Puts, Covers, row_bytes};
 
@@ -17,6 +18,14 @@ use error_tree::table::{ATTRIBUTE_ENTRY, ERROR_ENTRY};
 use varint::write::{varint_size, write_varint};
 use word_write::write_bytes;
 use words::outcome::{NoRoom, Room};
+
+// The two lent tables, and the area that their offsets speak of.
+#[derive(Clone, Copy)]
+struct Tables<'a> {
+    area: &'a [u8],
+    errors: &'a [u64],
+    attributes: &'a [u64],
+}
 
 // An error by its number: all its attributes stand in the rows from..till, and they have so many bytes.
 #[derive(Clone, Copy)]
@@ -50,155 +59,145 @@ fn put_stretch(out: &mut [u8], tag: u8, area: &[u8], offset: u64, size: u64) -> 
 }
 
 // The key and the value of the attribute number `k`.
-fn put_attribute(out: &mut [u8], area: &[u8], errors: &[u64], attributes: &[u64], k: usize) -> usize
-    requires { Sound area.now errors.now attributes.now × (k < attributes_in attributes.now)
-        × (length (attribute_bytes area.now attributes.now k) ≤ length out.old) }
-    ensures { Puts (attribute_bytes area.now attributes.now k) out.old
+fn put_attribute(out: &mut [u8], tables: Tables<'_>, k: usize) -> usize
+    requires { Sound tables.area.now tables.errors.now tables.attributes.now
+        × (k < attributes_in tables.attributes.now)
+        × (length (attribute_bytes tables.area.now tables.attributes.now k) ≤ length out.old) }
+    ensures { Puts (attribute_bytes tables.entry.area.now tables.entry.attributes.now k) out.old
         out.new result }
 {
     let at = put_stretch(
         out,
         0x0a,
-        area,
-        attributes[ATTRIBUTE_ENTRY * k + 1],
-        attributes[ATTRIBUTE_ENTRY * k + 2],
+        tables.area,
+        tables.attributes[ATTRIBUTE_ENTRY * k + 1],
+        tables.attributes[ATTRIBUTE_ENTRY * k + 2],
     );
     at + put_stretch(
         &mut out[at..],
         0x12,
-        area,
-        attributes[ATTRIBUTE_ENTRY * k + 3],
-        attributes[ATTRIBUTE_ENTRY * k + 4],
+        tables.area,
+        tables.attributes[ATTRIBUTE_ENTRY * k + 3],
+        tables.attributes[ATTRIBUTE_ENTRY * k + 4],
     )
 }
 
 // The row `k`, where it is one of the error number `i`.
-fn put_row(
-    out: &mut [u8],
-    area: &[u8],
-    errors: &[u64],
-    attributes: &[u64],
-    i: usize,
-    k: usize,
-) -> usize
-    requires { Sound area.now errors.now attributes.now × (k < attributes_in attributes.now)
-        × (length (row_bytes area.now attributes.now i k) ≤ length out.old) }
-    ensures { Puts (row_bytes area.now attributes.now i k) out.old out.new result }
+fn put_row(out: &mut [u8], tables: Tables<'_>, i: usize, k: usize) -> usize
+    requires { Sound tables.area.now tables.errors.now tables.attributes.now
+        × (k < attributes_in tables.attributes.now)
+        × (length (row_bytes tables.area.now tables.attributes.now i k) ≤ length out.old) }
+    ensures { Puts (row_bytes tables.entry.area.now tables.entry.attributes.now i k) out.old out.new result }
 {
-    if attributes[ATTRIBUTE_ENTRY * k] != (i as u64) {
+    if tables.attributes[ATTRIBUTE_ENTRY * k] != (i as u64) {
         return 0;
     }
-    let at = put_lead(out, 0x0a, attribute_size(attributes, k));
-    at + put_attribute(&mut out[at..], area, errors, attributes, k)
+    let at = put_lead(out, 0x0a, attribute_size(tables.attributes, k));
+    at + put_attribute(&mut out[at..], tables, k)
 }
 
 // An error's attributes.
-fn put_entries(
-    out: &mut [u8],
-    area: &[u8],
-    errors: &[u64],
-    attributes: &[u64],
-    entry: Entry,
-) -> usize
-    requires { Sound area.now errors.now attributes.now
-        × Covers attributes.now entry.number entry.from entry.till
-        × (length (entries_bytes area.now attributes.now (all_rows attributes.now entry.number)) ≤ length out.old) }
-    ensures { Puts (entries_bytes area.now attributes.now (all_rows attributes.now entry.number))
+fn put_entries(out: &mut [u8], tables: Tables<'_>, entry: Entry) -> usize
+    requires { Sound tables.area.now tables.errors.now tables.attributes.now
+        × Covers tables.attributes.now entry.number entry.from entry.till
+        × (length (entries_bytes tables.area.now tables.attributes.now
+        (all_rows tables.attributes.now entry.number)) ≤ length out.old) }
+    ensures { Puts (entries_bytes tables.entry.area.now tables.entry.attributes.now
+        (all_rows tables.entry.attributes.now entry.number))
         out.old out.new result }
 {
     let mut at = 0;
     for k in entry.from..entry.till {
-        at += put_row(&mut out[at..], area, errors, attributes, entry.number, k);
+        at += put_row(&mut out[at..], tables, entry.number, k);
     }
     at
 }
 
 // One dictionary if any.
-fn put_dictionary(
-    out: &mut [u8],
-    area: &[u8],
-    errors: &[u64],
-    attributes: &[u64],
-    entry: Entry,
-) -> usize
-    requires { Sound area.now errors.now attributes.now
-        × Covers attributes.now entry.number entry.from entry.till
+fn put_dictionary(out: &mut [u8], tables: Tables<'_>, entry: Entry) -> usize
+    requires { Sound tables.area.now tables.errors.now tables.attributes.now
+        × Covers tables.attributes.now entry.number entry.from entry.till
         × (entry.size
-        ≡ length (entries_bytes area.now attributes.now (all_rows attributes.now entry.number)))
-        × (length (dictionary_bytes (entries_bytes area.now attributes.now (all_rows attributes.now entry.number)))
+        ≡ length (entries_bytes tables.area.now tables.attributes.now
+        (all_rows tables.attributes.now entry.number)))
+        × (length (dictionary_bytes (entries_bytes tables.area.now tables.attributes.now
+        (all_rows tables.attributes.now entry.number)))
         ≤ length out.old) }
     ensures { Puts
         (dictionary_bytes
-        (entries_bytes area.now attributes.now (all_rows attributes.now entry.number)))
+        (entries_bytes tables.entry.area.now tables.entry.attributes.now
+        (all_rows tables.entry.attributes.now entry.number)))
         out.old out.new result }
 {
     if entry.size == 0 {
         return 0;
     }
     let at = put_lead(out, 0x1a, entry.size);
-    at + put_entries(&mut out[at..], area, errors, attributes, entry)
+    at + put_entries(&mut out[at..], tables, entry)
 }
 
 // An error without its inner errors.
-fn put_own(out: &mut [u8], area: &[u8], errors: &[u64], attributes: &[u64], entry: Entry) -> usize
-    requires { Sound area.now errors.now attributes.now × (entry.number < errors_in errors.now)
-        × Covers attributes.now entry.number entry.from entry.till
+fn put_own(out: &mut [u8], tables: Tables<'_>, entry: Entry) -> usize
+    requires { Sound tables.area.now tables.errors.now tables.attributes.now
+        × (entry.number < errors_in tables.errors.now)
+        × Covers tables.attributes.now entry.number entry.from entry.till
         × (entry.size
-        ≡ length (entries_bytes area.now attributes.now (all_rows attributes.now entry.number)))
-        × (length (own_bytes area.now errors.now attributes.now entry.number) ≤ length out.old) }
-    ensures { Puts (own_bytes area.now errors.now attributes.now entry.number) out.old
-        out.new result }
+        ≡ length (entries_bytes tables.area.now tables.attributes.now
+        (all_rows tables.attributes.now entry.number)))
+        × (length (own_bytes tables.area.now tables.errors.now tables.attributes.now entry.number)
+        ≤ length out.old) }
+    ensures { Puts
+        (own_bytes tables.entry.area.now tables.entry.errors.now tables.entry.attributes.now entry.number)
+        out.old out.new result }
 {
-    let code = put_lead(out, 0x08, errors[ERROR_ENTRY * entry.number]);
+    let code = put_lead(out, 0x08, tables.errors[ERROR_ENTRY * entry.number]);
     let text = code
         + put_stretch(
             &mut out[code..],
             0x12,
-            area,
-            errors[ERROR_ENTRY * entry.number + 2],
-            errors[ERROR_ENTRY * entry.number + 3],
+            tables.area,
+            tables.errors[ERROR_ENTRY * entry.number + 2],
+            tables.errors[ERROR_ENTRY * entry.number + 3],
         );
-    text + put_dictionary(&mut out[text..], area, errors, attributes, entry)
+    text + put_dictionary(&mut out[text..], tables, entry)
 }
 
 // An inner error as a field, its inner errors going behind: they and it have so many bytes.
-fn put_inner(
-    out: &mut [u8],
-    area: &[u8],
-    errors: &[u64],
-    attributes: &[u64],
-    entry: Entry,
-    body: u64,
-) -> usize
-    requires { Sound area.now errors.now attributes.now × (entry.number < errors_in errors.now)
-        × Covers attributes.now entry.number entry.from entry.till
+fn put_inner(out: &mut [u8], tables: Tables<'_>, entry: Entry, body: u64) -> usize
+    requires { Sound tables.area.now tables.errors.now tables.attributes.now
+        × (entry.number < errors_in tables.errors.now)
+        × Covers tables.attributes.now entry.number entry.from entry.till
         × (entry.size
-        ≡ length (entries_bytes area.now attributes.now (all_rows attributes.now entry.number)))
-        × (length (lead 0x22 body ++ own_bytes area.now errors.now attributes.now entry.number)
+        ≡ length (entries_bytes tables.area.now tables.attributes.now
+        (all_rows tables.attributes.now entry.number)))
+        × (length (lead 0x22 body ++ own_bytes tables.area.now tables.errors.now tables.attributes.now entry.number)
         ≤ length out.old) }
-    ensures { Puts (lead 0x22 body ++ own_bytes area.now errors.now attributes.now entry.number)
+    ensures { Puts
+        (lead 0x22 body
+        ++ own_bytes tables.entry.area.now tables.entry.errors.now tables.entry.attributes.now entry.number)
         out.old out.new result }
 {
     let at = put_lead(out, 0x22, body);
-    at + put_own(&mut out[at..], area, errors, attributes, entry)
+    at + put_own(&mut out[at..], tables, entry)
 }
 
 // The whole message over the front of `out`, which has the room: from the last entry to the first, as it is measured.
-fn write_errors(out: &mut [u8], area: &[u8], errors: &[u64], attributes: &[u64], total: usize)
-    requires { Sound area.now errors.now attributes.now
-        × (total ≡ length (error_bytes area.now errors.now attributes.now)) × (total ≤ length out.old) }
-    ensures { out.new ≡ over (error_bytes area.now errors.now attributes.now)
+fn write_errors(out: &mut [u8], tables: Tables<'_>, total: usize)
+    requires { Sound tables.area.now tables.errors.now tables.attributes.now
+        × (total ≡ length (error_bytes tables.area.now tables.errors.now tables.attributes.now))
+        × (total ≤ length out.old) }
+    ensures { out.new ≡ over (error_bytes tables.entry.area.now tables.entry.errors.now tables.entry.attributes.now)
         out.old }
 {
-    let sorted = is_sorted(attributes);
-    let mut till = attributes.len() / ATTRIBUTE_ENTRY;
+    let sorted = is_sorted(tables.attributes);
+    let mut till = tables.attributes.len() / ATTRIBUTE_ENTRY;
     let mut sums: [u64; SUMS] = [0; SUMS];
     let mut at = total;
-    for i in (1..errors.len() / ERROR_ENTRY).rev() {
-        let from = first_row(attributes, sorted, i, till);
-        let entries = entries_size(attributes, i, from, till);
-        let own = own_size(errors, i, entries);
-        let depth = errors[ERROR_ENTRY * i + 1] as usize;
+    for i in (1..tables.errors.len() / ERROR_ENTRY).rev() {
+        let from = first_row(tables.attributes, sorted, i, till);
+        let entries = entries_size(tables.attributes, i, from, till);
+        let own = own_size(tables.errors, i, entries);
+        let depth = tables.errors[ERROR_ENTRY * i + 1] as usize;
         let body = add_capped(own, sums[depth + 1]);
         let size = 1 + varint_size(body) + (own as usize);
         at -= size;
@@ -208,20 +207,20 @@ fn write_errors(out: &mut [u8], area: &[u8], errors: &[u64], attributes: &[u64],
             till,
             size: entries,
         };
-        put_inner(&mut out[at..], area, errors, attributes, entry, body);
+        put_inner(&mut out[at..], tables, entry, body);
         till = row_before(sorted, from, till);
         let sum = add_capped(delimited_size(body), sums[depth]);
         sums[depth + 1] = 0;
         sums[depth] = sum;
     }
-    let from = first_row(attributes, sorted, 0, till);
+    let from = first_row(tables.attributes, sorted, 0, till);
     let entry = Entry {
         number: 0,
         from,
         till,
-        size: entries_size(attributes, 0, from, till),
+        size: entries_size(tables.attributes, 0, from, till),
     };
-    put_own(out, area, errors, attributes, entry);
+    put_own(out, tables, entry);
 }
 
 // Writes the tables as a TError and says how many bytes it has; a refusal leaves the output as it was.
@@ -242,6 +241,11 @@ pub fn encode_error(
             given: out.len() as u64,
         }));
     }
-    write_errors(out, area, errors, attributes, count as usize);
+    let tables = Tables {
+        area,
+        errors,
+        attributes,
+    };
+    write_errors(out, tables, count as usize);
     Ok(count as usize)
 }

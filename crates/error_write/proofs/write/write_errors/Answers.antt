@@ -23,11 +23,11 @@ overflow_mul-depth c = omega (arith, entry_fits c.requires.0 c.loop-i.invariant.
 pub overflow_add-depth : goal.overflow_add-depth
 overflow_add-depth c = omega (arith, entry_fits c.requires.0 c.loop-i.invariant.measuring c.loop-i-test.true)
 
-pub offset_bounds-errors-i : goal.offset_bounds-errors-i
-offset_bounds-errors-i c = omega (arith, entry_fits c.requires.0 c.loop-i.invariant.measuring c.loop-i-test.true)
+pub offset_bounds-tables-i : goal.offset_bounds-tables-i
+offset_bounds-tables-i c = omega (arith, entry_fits c.requires.0 c.loop-i.invariant.measuring c.loop-i-test.true)
 
-pub bounds-errors-i : goal.bounds-errors-i
-bounds-errors-i c = omega (arith, entry_fits c.requires.0 c.loop-i.invariant.measuring c.loop-i-test.true)
+pub bounds-tables-i : goal.bounds-tables-i
+bounds-tables-i c = omega (arith, entry_fits c.requires.0 c.loop-i.invariant.measuring c.loop-i-test.true)
 
 pub overflow_add-depth-in-loop-i : goal.overflow_add-depth-in-loop-i
 overflow_add-depth-in-loop-i c = omega (arith, depth_fits c.requires.0 c.loop-i.invariant.measuring c.loop-i-test.true)
