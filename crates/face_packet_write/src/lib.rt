@@ -2,31 +2,20 @@
 // is a number too: 0 is archive, any other is live.
 #![tactic(auto)]
 
-ghost use Rattle.packet_write.specs.Paper.{paper};
 ghost use Rattle.face_parts.specs.Statement.{unknown_type};
 ghost use Rattle.face_packet_write.specs.Statement.{Encodes};
 ghost use Rattle.words.specs.Paper.{Tells};
 
 use guid::Guid;
-use packet::{PacketFlags, TypeFound};
+use packet::PacketFlags;
 use packet_mode::mode_of;
-use packet_write::Encoded;
-use words::outcome::{Outcome, refusal, taken};
+use words::outcome::{Outcome, refusal};
 
+// As in `face_parts`, which this crate doesn't call: its exports would then stand in this crate's library too.
 fn unknown_type(kind: u64) -> Outcome
     ensures { Tells (unknown_type kind) result }
 {
     refusal(2, 0, kind, 0, 0)
-}
-
-// The answer of `encode` in document 01's number and values.
-fn encoded_outcome(answer: Encoded) -> Outcome
-    ensures { Tells (paper answer) result }
-{
-    match answer {
-        Encoded::Written(size) => taken(size as u64, 0, 0, 0),
-        Encoded::Refused(error) => packet::refused(error, 0),
-    }
 }
 
 // Writes a packet to the front of `out`.
@@ -43,13 +32,19 @@ pub extern "C" fn cablefinch_encode(
     ensures { Encodes mode kind flags id.now area.now parts.now out.old result
         out.new }
 {
-    match packet::type_of(kind) {
-        TypeFound::Unknown => unknown_type(kind),
-        TypeFound::Known(packet_type) => {
-            let guid = Guid::from_bytes(id, 0);
-            let flags = PacketFlags(flags);
-            let mode = mode_of(mode);
-            encoded_outcome(packet_write::encode(mode, packet_type, flags, guid, area, parts, out))
-        }
-    }
+    let Some(packet_type) = packet::type_of(kind) else {
+        return unknown_type(kind);
+    };
+    let guid = Guid::from_bytes(id, 0);
+    let flags = PacketFlags(flags);
+    let mode = mode_of(mode);
+    packet_check::outcome(packet_write::encode(
+        mode,
+        packet_type,
+        flags,
+        guid,
+        area,
+        parts,
+        out,
+    ))
 }

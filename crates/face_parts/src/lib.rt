@@ -4,11 +4,10 @@
 #![tactic(auto)]
 
 ghost use Rattle.face_parts.specs.Statement.{unknown_type, Measures, Validates, LendsPart, Contains};
-ghost use Rattle.packet_check.specs.Paper.{paper_validated, paper_measured};
+ghost use Rattle.packet_check.specs.Paper.{paper_validated};
 ghost use Rattle.words.specs.Paper.{Tells};
 
-use packet::{PacketFlags, TypeFound};
-use packet_check::{Measured, Validated};
+use packet::{PacketError, PacketFlags};
 use packet_mode::mode_of;
 use words::outcome::{Outcome, refusal, taken};
 
@@ -18,23 +17,14 @@ fn unknown_type(kind: u64) -> Outcome
     refusal(2, 0, kind, 0, 0)
 }
 
-// The answer of `validate` in document 01's number and values.
-fn validated_outcome(answer: Validated) -> Outcome
+// The answer of `validate` in document 01's number and values. It is no `From`: neither a `Result` nor an `Outcome` is
+// this crate's.
+fn validated_outcome(answer: Result<(), PacketError>) -> Outcome
     ensures { Tells (paper_validated answer) result }
 {
     match answer {
-        Validated::Valid => taken(0, 0, 0, 0),
-        Validated::Refused(error) => packet::refused(error, 0),
-    }
-}
-
-// The answer of `encoded_size` in document 01's number and values.
-fn measured_outcome(answer: Measured) -> Outcome
-    ensures { Tells (paper_measured answer) result }
-{
-    match answer {
-        Measured::Size(size) => taken(size as u64, 0, 0, 0),
-        Measured::Refused(error) => packet::refused(error, 0),
+        Ok(()) => taken(0, 0, 0, 0),
+        Err(error) => packet::refused(error, 0),
     }
 }
 
@@ -48,13 +38,11 @@ pub extern "C" fn cablefinch_encoded_size(
 ) -> Outcome
     ensures { Measures mode kind area.now parts.now result }
 {
-    match packet::type_of(kind) {
-        TypeFound::Unknown => unknown_type(kind),
-        TypeFound::Known(packet_type) => {
-            let mode = mode_of(mode);
-            measured_outcome(packet_check::encoded_size(mode, packet_type, area, parts))
-        }
-    }
+    let Some(packet_type) = packet::type_of(kind) else {
+        return unknown_type(kind);
+    };
+    let mode = mode_of(mode);
+    packet_check::outcome(packet_check::encoded_size(mode, packet_type, area, parts))
 }
 
 // Whether the packet can be written, room aside.
@@ -62,13 +50,11 @@ pub extern "C" fn cablefinch_encoded_size(
 pub extern "C" fn cablefinch_validate(mode: u64, kind: u64, area: &[u8], parts: &[u64]) -> Outcome
     ensures { Validates mode kind area.now parts.now result }
 {
-    match packet::type_of(kind) {
-        TypeFound::Unknown => unknown_type(kind),
-        TypeFound::Known(packet_type) => {
-            let mode = mode_of(mode);
-            validated_outcome(packet_check::validate(mode, packet_type, area, parts))
-        }
-    }
+    let Some(packet_type) = packet::type_of(kind) else {
+        return unknown_type(kind);
+    };
+    let mode = mode_of(mode);
+    validated_outcome(packet_check::validate(mode, packet_type, area, parts))
 }
 
 // Where part `index` lies in the input and how long it is; an empty part lies at 0.

@@ -3,15 +3,11 @@
 #![tactic(auto)]
 
 use input::Input;
-use listing::Listed;
 use std::io::{Read, Write};
 
 fn print_into<W: Write>(input: &[u8], text: &mut [u8], writer: &mut W) {
-    match listing::list(input, text) {
-        Listed::Written(count) => {
-            let _ = writer.write_all(&text[..count]);
-        }
-        Listed::Refused(_) => {}
+    if let Ok(count) = listing::list(input, text) {
+        let _ = writer.write_all(&text[..count]);
     }
 }
 

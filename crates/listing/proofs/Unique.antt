@@ -7,21 +7,20 @@ use Rattle.words.specs.Statement.{OneResult}
 use Rattle.words.proofs.Unique.{means_one}
 use Rattle.words.proofs.PaperLaws.{no_room_of, no_room_back}
 use Prim.Native.Nat.{ℕ}
-use Rattle.listing.specs.declared.Listed.{Listed}
-use Rattle.listing.specs.declared.Listed.TheVariants.{Written, Refused}
+use Rattle.std.specs.declared.result.Result.TheVariants.{Ok, Err}
 use Rattle.listing.specs.Output.{listing}
-use Rattle.listing.specs.Statement.{paper, Lists}
+use Rattle.listing.specs.Statement.{Listed, paper, Lists}
 
--- back from an answer to the enum's case
+-- back from an answer to the answer
 back : Answer → Listed
-back (accepted count fields) = Written count
-back more = Written 0
-back (refused number values consumed) = Refused (no_room_of values)
+back (accepted count fields) = Ok count
+back more = Ok 0
+back (refused number values consumed) = Err (no_room_of values)
 
 paper_back_lem : (r : Listed) → back (paper r) ≡ r
 unfolding back
-paper_back_lem (Written count) = refl
-paper_back_lem (Refused short) = ap Refused (no_room_back short)
+paper_back_lem (Ok count) = refl
+paper_back_lem (Err short) = ap Err (no_room_back short)
 
 pub list_unique : (s before : List ℕ) → OneResult (λ (x : Listed × List ℕ). Lists s before x.0 x.1)
 list_unique s before x x' p p' =

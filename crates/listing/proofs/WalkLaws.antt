@@ -1,7 +1,7 @@
 -- Laws of the walk: what an accepted packet is known to be, each answer of a step, and the steps together. Assumes nothing.
 use mathlib.Core.Path.{◌≡◌, refl, sym, ◌∙◌, ap, subst}
 use mathlib.Core.Bool.{Bool, true, false, or-true, true≢false}
-use mathlib.Core.List.{List, [], ◌∷◌, ◌++◌, append_assoc}
+use mathlib.Core.List.{List, [], ◌++◌, append_assoc}
 use Prim.Native.Nat.{ℕ, zero, suc, ◌+◌, ◌*◌, ◌-◌, ◌<◌, ◌≤◌, min}
 use native.Mathlib.Omega.{arith}
 use borrow.Author.Tests.{lt-ltb, le-ltb, le-leb, lt-leb, ltb-false}
@@ -18,15 +18,15 @@ use Rattle.packet.specs.declared.PacketError.{PacketError}
 use Rattle.packet.specs.Layout.{most_parts, fixed_header_size, part_header_size, has_variable_header, type, count, fields, whole}
 use Rattle.packet.specs.Entries.{entry_words, room, entries}
 use Rattle.packet.specs.Paper.{number_of, fields_of}
-use Rattle.packet_answer.specs.declared.Decoded.{Decoded}
-use Rattle.packet_answer.specs.declared.Decoded.TheVariants.{Read, More, Refused}
+use Rattle.packet_answer.specs.Paper.{Decoded}
+use Rattle.std.specs.declared.option.Option.TheVariants.{Some, None}
+use Rattle.std.specs.declared.result.Result.TheVariants.{Ok, Err}
 use Rattle.packet.specs.declared.Mode.TheVariants.{Archive}
 use Rattle.packet_read.specs.Reading.{Limits, limited, reading}
 use Rattle.packet_answer.specs.Paper as Read
 use Rattle.packet_read.specs.Statement.{Decodes}
 use Rattle.packet_read.proofs.EntryLaws.{length_entries}
 use Rattle.packet_read.proofs.Lines.{Before, rest, front, reading_is, lines_before, lines_behind, pass_bare, pass_before, pass_behind}
-use Rattle.listing.specs.declared.Listed.TheVariants as Listed
 use Rattle.listing.specs.Text.{packet_line, part_lines, end_line, more_line, refused_line}
 use Rattle.listing.specs.Output.{most_bytes, byte_limit, part_ceiling, limits, text_room, answer, answered, lines_then, lines_from, output}
 use Rattle.listing.specs.Statement.{Lists}
@@ -112,28 +112,28 @@ module _ (s : List ℕ) (offset at : ℕ) (before : List ℕ) where
     unfolding lines_then
     lines_so r d later = rw (lt-leb (length s) offset some) (ap (answered s offset later) (answered_so r d))
 
-    pub unfinished : {end : ℕ} {after : List ℕ} → Reads More → Wrote (more_line offset) at before end after → LastLine s offset at before end after
-    unfinished d wrote = record { lines = more_line offset; are = lines_so More d; wrote = wrote }
+    pub unfinished : {end : ℕ} {after : List ℕ} → Reads (Ok None) → Wrote (more_line offset) at before end after → LastLine s offset at before end after
+    unfinished d wrote = record { lines = more_line offset; are = lines_so (Ok None) d; wrote = wrote }
 
-    pub refusal : (error : PacketError) {consumed number end : ℕ} {after : List ℕ} → Reads (Refused error consumed) → number ≡ number_of error
+    pub refusal : (error : PacketError) {consumed number end : ℕ} {after : List ℕ} → Reads (Err record { error = error; consumed = consumed }) → number ≡ number_of error
         → Wrote (refused_line offset number) at before end after → LastLine s offset at before end after
     refusal error {consumed} {number} d e wrote =
-        record { lines = refused_line offset number; are = λ later. lines_so (Refused error consumed) d later ∙ ap (refused_line offset) (sym e); wrote = wrote }
+        record { lines = refused_line offset number; are = λ later. lines_so (Err record { error = error; consumed = consumed }) d later ∙ ap (refused_line offset) (sym e); wrote = wrote }
 
-    module _ (packet : Packet) (consumed : ℕ) (d : Reads (Read packet consumed)) where
+    module _ (packet : Packet) (consumed : ℕ) (d : Reads (Ok (Some record { packet = packet; consumed = consumed }))) where
       abbrev left : List ℕ
       left = drop offset s
 
       found : Accepts left limits consumed (fields_of packet)
-      found = accepts left limits consumed (fields_of packet) (sym (at_rest (Read packet consumed) d).answer)
+      found = accepts left limits consumed (fields_of packet) (sym (at_rest (Ok (Some record { packet = packet; consumed = consumed })) d).answer)
 
       counted : packet.parts ≡ count left
       counted = ap (λ (f : List ℕ). get_or f 6 0) found.read
 
       filled : table' ≡ over (entries left) table
       filled =
-          (at_rest (Read packet consumed) d).tables
-          ∙ ap (λ (a : Answer). afterwards a (entries left) table) (sym (at_rest (Read packet consumed) d).answer)
+          (at_rest (Ok (Some record { packet = packet; consumed = consumed })) d).tables
+          ∙ ap (λ (a : Answer). afterwards a (entries left) table) (sym (at_rest (Ok (Some record { packet = packet; consumed = consumed })) d).answer)
 
       words : length (entries left) ≡ entry_words * packet.parts
       words = length_entries left (count left) 0 (count left) ∙ ap (λ (n : ℕ). entry_words * n) (sym counted)
@@ -154,7 +154,7 @@ module _ (s : List ℕ) (offset at : ℕ) (before : List ℕ) where
       packet_listed early wrote short =
           record {
             lines = packet_line offset (fields_of packet) ++ part_lines (entries left) packet.parts;
-            are = lines_so (Read packet consumed) d;
+            are = lines_so (Ok (Some record { packet = packet; consumed = consumed })) d;
             wrote = wrote_as (ap (λ (l : List ℕ). packet_line offset (fields_of packet) ++ l) same_lines) wrote;
             behind = goes_on.0;
             inside = goes_on.1;
@@ -201,20 +201,20 @@ listing_ends {s} {before} {now} {after} {offset} {at} {end} room so p =
 -- The whole output
 
 module _ (s before : List ℕ) where
-  pub output_short : length before < text_room → Lists s before (Listed.Refused (record { room = Output; needed = text_room; given = length before })) before
+  pub output_short : length before < text_room → Lists s before (Err (record { room = Output; needed = text_room; given = length before })) before
   output_short short = let so = lt-ltb (length before) text_room short in (rw so, rw so)
 
   module _ (fits : text_room ≤ length before) where
-    written : {text : List ℕ} {end : ℕ} {after : List ℕ} → output s ≡ text → Wrote text 0 before end after → Lists s before (Listed.Written end) after
+    written : {text : List ℕ} {end : ℕ} {after : List ℕ} → output s ≡ text → Wrote text 0 before end after → Lists s before (Ok end) after
     written {text} {end} e wrote =
         let front = wrote_front (wrote_as (sym e) wrote) in
         let so = le-ltb (length before) text_room fits in
         (rw so (ap (λ (n : ℕ). accepted n []) front.0), rw so front.1)
 
-    pub output_too_long : {end : ℕ} {after : List ℕ} → most_bytes < length s → Wrote (text "too long\n") 0 before end after → Lists s before (Listed.Written end) after
+    pub output_too_long : {end : ℕ} {after : List ℕ} → most_bytes < length s → Wrote (text "too long\n") 0 before end after → Lists s before (Ok end) after
     unfolding output
     output_too_long long wrote = written (rw (lt-ltb most_bytes (length s) long)) wrote
 
-    pub output_lines : {end : ℕ} {after : List ℕ} → length s ≤ most_bytes → Wrote (lines_from (length s + 1) s 0) 0 before end after → Lists s before (Listed.Written end) after
+    pub output_lines : {end : ℕ} {after : List ℕ} → length s ≤ most_bytes → Wrote (lines_from (length s + 1) s 0) 0 before end after → Lists s before (Ok end) after
     unfolding output
     output_lines few wrote = written (rw (le-ltb most_bytes (length s) few)) wrote

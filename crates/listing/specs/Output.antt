@@ -1,7 +1,7 @@
 -- The whole output of `list` for an input, after document 01: it "reads standard input, at most 65,536 bytes (more
 -- prints `too long`), with limits 65,536 bytes and 2,048 parts". It reads in archive mode, which "still reads, lists
 -- and writes such packets" (document 02, A12). Assumes nothing.
-use Rattle.std.specs.Prelude.{ℕ, zero, suc, ◌+◌, ◌*◌, List, [], ◌∷◌, ◌++◌, leb, length, drop, get_or}
+use Rattle.std.specs.Prelude.{ℕ, zero, suc, ◌+◌, List, [], ◌∷◌, ◌++◌, leb, length, drop, get_or}
 use Rattle.words.specs.Decide.{pick, decide, ◌<?◌}
 use Rattle.words.specs.Answer.{Answer, accepted, more, refused}
 use Rattle.words.specs.Paper.{room_line}

@@ -1,10 +1,9 @@
 -- What the private writers of text hand on. Nobody has to believe it: contracts of private functions cite it. Assumes
 -- nothing.
-use Rattle.std.specs.Prelude.{ℕ, ◌+◌, ◌*◌, ◌<◌, ◌≤◌, List, [], ◌∷◌, ◌++◌, ◌≡◌, length, take, drop}
+use Rattle.std.specs.Prelude.{ℕ, ◌+◌, ◌*◌, ◌<◌, ◌≤◌, List, [], ◌∷◌, ◌++◌, ◌≡◌, length, take, drop, Result, Ok, Err}
 use Rattle.listing.specs.declared.Stepped.{Stepped}
 use Rattle.listing.specs.declared.Stepped.TheVariants.{Packet, Last}
-use Rattle.listing.specs.declared.Listed.{Listed}
-use Rattle.listing.specs.declared.Listed.TheVariants.{Written, Refused}
+use Rattle.words.specs.declared.outcome.NoRoom.{NoRoom}
 use Rattle.words.specs.Decide.{pick, ◌=?◌}
 use Rattle.words.specs.Text.{text}
 use Rattle.numerals.specs.Statement.{decimal}
@@ -46,6 +45,6 @@ Steps s offset at before (Last end) after = LastLine s offset at before end afte
 Steps s offset at before (Packet next end) after = PacketLines s offset at before next end after
 
 -- what a caller of `list` goes by: the text lies in its buffer
-abbrev pub Fits : List ℕ → Listed → Type 0
-Fits before (Written count) = count ≤ length before
-Fits before (Refused short) = Unit {0}
+abbrev pub Fits : List ℕ → Result ℕ NoRoom → Type 0
+Fits before (Ok count) = count ≤ length before
+Fits before (Err short) = Unit {0}

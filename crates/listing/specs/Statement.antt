@@ -1,15 +1,18 @@
--- What `list` promises, and what its enum means in document 01's terms. Assumes nothing.
-use Rattle.std.specs.Prelude.{ℕ, List, [], length}
+-- What `list` promises, and what its answer means in document 01's terms. Assumes nothing.
+use Rattle.std.specs.Prelude.{ℕ, List, [], length, Result, Ok, Err}
 use Rattle.words.specs.Answer.{Answer, accepted, refuse}
 use Rattle.words.specs.Paper.{no_room_values}
 use Rattle.words.specs.Statement.{Means, Holds}
-use Rattle.listing.specs.declared.Listed.{Listed}
-use Rattle.listing.specs.declared.Listed.TheVariants.{Written, Refused}
+use Rattle.words.specs.declared.outcome.NoRoom.{NoRoom}
 use Rattle.listing.specs.Output.{output, listing}
 
+-- how many bytes of text were written, or 17
+abbrev pub Listed : Type 0
+Listed = Result ℕ NoRoom
+
 abbrev pub paper : Listed → Answer
-paper (Written count) = accepted count []
-paper (Refused short) = refuse 17 (no_room_values short)
+paper (Ok count) = accepted count []
+paper (Err short) = refuse 17 (no_room_values short)
 
 -- listing s answers r, and the buffer that held `before` holds the whole output over its front
 abbrev pub Lists : List ℕ → List ℕ → Listed → List ℕ → Type 0

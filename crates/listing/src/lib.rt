@@ -11,8 +11,7 @@ ghost use Rattle.listing.specs.Output.{most_bytes, part_ceiling, text_room, line
 ghost use Rattle.listing.specs.Statement.{Lists};
 ghost use Rattle.listing.specs.Stages.{Wrote, entry_text, Steps, Fits};
 
-use packet::{ENTRY_WORDS, Mode, NULL_CHECKSUM, NULL_LENGTH, refused, type_number};
-use packet_answer::Decoded;
+use packet::{ENTRY_WORDS, Mode, NULL_CHECKSUM, NULL_LENGTH, refused};
 use text::{put_bytes, put_field, put_id};
 use words::outcome::{NoRoom, Room};
 
@@ -31,15 +30,8 @@ const MAX_PART_COUNT: u32 = 2_048;
 // The words of a part table with room for them.
 const PART_WORDS: usize = 6_144;
 
-// What `list` answers: how many bytes of text it wrote, or 17.
-#[derive(Clone, Copy)]
-pub enum Listed {
-    Written(usize),
-    Refused(NoRoom),
-}
-
 // One step of the walk: a packet's lines end at `end`, and the next packet begins at `next`; or the last line ends
-// there.
+// there. It is no `Option` or `Result`: both cases are places, and neither is a failure.
 #[derive(Clone, Copy)]
 enum Stepped {
     Packet { next: usize, end: usize },
@@ -54,7 +46,7 @@ fn packet_line(out: &mut [u8], at: usize, offset: usize, packet: packet::Packet)
     let type_at = put_bytes(out, at, b"packet ");
     let flags_at = put_field(out, type_at, offset as u64, b' ');
     let flags = packet.flags.0 as u64;
-    let id_at = put_field(out, flags_at, type_number(packet_type) as u64, b' ');
+    let id_at = put_field(out, flags_at, u16::from(packet_type) as u64, b' ');
     let parts_at = put_field(out, id_at, flags, b' ');
     let id = packet.id;
     let count_at = put_id(out, parts_at, id);
@@ -100,12 +92,10 @@ fn part_lines(out: &mut [u8], at: usize, parts: &[u64], count: usize) -> usize
         × (result ≤ at + 55 * count) }
 {
     let mut next = at;
-    let mut index = 0;
-    while index < count {
+    for index in 0..count {
         let size = parts[ENTRY_WORDS * index + 1];
         let sum = parts[ENTRY_WORDS * index + 2];
         next = part_line(out, next, index, size, sum);
-        index += 1;
     }
     next
 }
@@ -168,15 +158,15 @@ fn step(input: &[u8], offset: usize, parts: &mut [u64], out: &mut [u8], at: usiz
         MAX_PART_COUNT,
         parts,
     ) {
-        Decoded::More => Stepped::Last(more_line(out, at, offset)),
-        Decoded::Refused { error, consumed: _ } => {
-            let outcome = refused(error, 0);
+        Ok(None) => Stepped::Last(more_line(out, at, offset)),
+        Err(refusal) => {
+            let outcome = refused(refusal.error, 0);
             Stepped::Last(refused_line(out, at, offset, outcome.number))
         }
-        Decoded::Read { packet, consumed } => {
-            let end = packet_lines(out, at, offset, packet, parts);
+        Ok(Some(read)) => {
+            let end = packet_lines(out, at, offset, read.packet, parts);
             Stepped::Packet {
-                next: offset + consumed,
+                next: offset + read.consumed,
                 end,
             }
         }
@@ -205,22 +195,22 @@ fn lines(input: &[u8], parts: &mut [u64], out: &mut [u8]) -> usize
     }
 }
 
-// The whole output of `list` for an input, over the front of `out`.
-pub fn list(input: &[u8], out: &mut [u8]) -> Listed
+// Writes the whole output of `list` for an input over the front of `out`, and answers how many bytes it has.
+pub fn list(input: &[u8], out: &mut [u8]) -> Result<usize, NoRoom>
     ensures lists { Lists input.now out.old result out.new }
     ensures fits { Fits out.old result }
 {
     if out.len() < TEXT_ROOM {
-        return Listed::Refused(NoRoom {
+        return Err(NoRoom {
             room: Room::Output,
             needed: TEXT_ROOM as u64,
             given: out.len() as u64,
         });
     }
     if MAX_INPUT < input.len() {
-        return Listed::Written(put_bytes(out, 0, b"too long\n"));
+        return Ok(put_bytes(out, 0, b"too long\n"));
     }
     let mut part_space = [0u64; PART_WORDS];
     let parts: &mut [u64] = &mut part_space;
-    Listed::Written(lines(input, parts, out))
+    Ok(lines(input, parts, out))
 }

@@ -31,7 +31,8 @@ pub(crate) fn put_id(out: &mut [u8], at: usize, id: Guid) -> usize
     ensures { Wrote (text_of id ++ 32 ∷ []) at out.old result out.new × (result ≤ at + 36) }
 {
     let last = at + guid_text::text_size(id);
-    guid_text::print(id, &mut out[at..]);
+    // The contract asks for the room, so this writes.
+    let _ = guid_text::print(id, &mut out[at..]);
     out[last] = b' ';
     last + 1
 }

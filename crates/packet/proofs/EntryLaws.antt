@@ -1,30 +1,14 @@
 -- Laws of a part table's entries: where one lies outside, and what is lent for it. Assumes nothing.
-use mathlib.Core.Path.{◌≡◌, refl, sym, ◌∙◌}
+use mathlib.Core.Path.{◌≡◌, refl}
 use mathlib.Core.Bool.{Bool, true, false, not, ◌&&◌}
 use mathlib.Core.List.{List, []}
-use Prim.Native.Nat.{ℕ, ◌+◌, ◌-◌, ◌<◌, ◌≤◌}
-use native.Mathlib.Omega.{arith}
+use Prim.Native.Nat.{ℕ, ◌+◌, ◌<◌, ◌≤◌}
 use native.Mathlib.Nat.{add-zero, add_comm}
-use lib.Dec.{ltb}
-use borrow.Author.Tests.{ltb-true, ltb-false, lt-ltb, le-ltb}
+use borrow.Author.Tests.{ltb-false, lt-ltb, le-ltb}
 use Rattle.packet.specs.Entries.{room, is_null, is_outside, null_at, outside_at, offset_at, stretch_at, is_lent, lent_at, lent_from}
 use Rattle.words.specs.Decide.{◌<?◌}
 
 module _ (given offset size : ℕ) where
-  pub outside_null : is_null offset size ≡ true → false ≡ is_outside given offset size
-  outside_null e = rw e
-
-  pub outside_far : is_null offset size ≡ false → given < offset → true ≡ is_outside given offset size
-  outside_far e h = rw (e, lt-ltb given (offset + size) (omega arith))
-
-  -- the sum that the code does not form
-  pub outside_rest : is_null offset size ≡ false → offset ≤ given → ltb (given - offset) size ≡ is_outside given offset size
-  outside_rest e h = rw e (go (ltb (given - offset) size) refl)
-    where
-      go : (b : Bool) → ltb (given - offset) size ≡ b → ltb (given - offset) size ≡ ltb given (offset + size)
-      go true b = b ∙ sym (lt-ltb given (offset + size) (omega (arith, ltb-true (given - offset) size b)))
-      go false b = b ∙ sym (le-ltb given (offset + size) (omega (arith, ltb-false (given - offset) size b)))
-
   pub inside : is_null offset size ≡ false → is_outside given offset size ≡ false → offset + size ≤ given
   inside e out = ltb-false given (offset + size) (rw e at out)
 

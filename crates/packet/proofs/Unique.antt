@@ -7,7 +7,7 @@ use Rattle.words.specs.Statement.{OneResult}
 use Rattle.words.proofs.Unique.{equal_to_one}
 use Rattle.packet.specs.declared.PacketType.{PacketType}
 use Rattle.packet.specs.declared.Mode.{Mode}
-use Rattle.packet.specs.declared.TypeFound.TheVariants.{Known, Unknown}
+use Rattle.std.specs.declared.option.Option.TheVariants.{Some, None}
 use Rattle.packet.specs.declared.PacketFlags.{PacketFlags}
 use Rattle.packet.specs.declared.PacketError.{PacketError}
 use Rattle.packet.specs.Statement.{NumbersType, FindsType, Refuses, TellsRetired, TellsVariableHeader, Contains, TellsNull, TellsOutside, LendsPart}
@@ -17,10 +17,10 @@ pub type_number_unique : (type : PacketType) → OneResult (NumbersType type)
 type_number_unique type = equal_to_one _
 
 pub type_of_unique : (number : ℕ) → OneResult (FindsType number)
-type_of_unique number (Known t) (Known t') p q = ap Known (type_injective t t' (p ∙ sym q))
-type_of_unique number (Known t) Unknown p q = absurd (omega (arith, p, q, type_known t))
-type_of_unique number Unknown (Known t) p q = absurd (omega (arith, p, q, type_known t))
-type_of_unique number Unknown Unknown p q = refl
+type_of_unique number (Some t) (Some t') p q = ap Some (type_injective t t' (p ∙ sym q))
+type_of_unique number (Some t) None p q = absurd (omega (arith, p, q, type_known t))
+type_of_unique number None (Some t) p q = absurd (omega (arith, p, q, type_known t))
+type_of_unique number None None p q = refl
 
 pub refused_unique : (error : PacketError) (consumed : ℕ) → OneResult (Refuses error consumed)
 refused_unique error consumed = equal_to_one _

@@ -1,13 +1,11 @@
 -- What each public function promises, by name. A lent area or table is read, and left as it was. Assumes nothing.
-use Rattle.std.specs.Prelude.{ℕ, ◌+◌, ◌<◌, Bool, List, ◌≡◌}
+use Rattle.std.specs.Prelude.{ℕ, ◌+◌, ◌<◌, Bool, List, Option, Some, None, ◌≡◌}
 use Rattle.std.specs.Int.Bits.{bit_and}
 use Rattle.words.specs.Decide.{◌=?◌}
 use Rattle.words.specs.Paper.{Tells}
 use Rattle.words.specs.declared.outcome.Outcome.{Outcome}
 use Rattle.packet.specs.declared.PacketType.{PacketType}
 use Rattle.packet.specs.declared.Mode.{Mode}
-use Rattle.packet.specs.declared.TypeFound.{TypeFound}
-use Rattle.packet.specs.declared.TypeFound.TheVariants.{Known, Unknown}
 use Rattle.packet.specs.declared.PacketFlags.{PacketFlags}
 use Rattle.packet.specs.declared.PacketError.{PacketError}
 use Rattle.packet.specs.Layout.{last_type, has_variable_header}
@@ -19,9 +17,9 @@ abbrev pub NumbersType : PacketType → ℕ → Type 0
 NumbersType type r = r ≡ type_number type
 
 -- the type with this number, or none where it is above the last
-abbrev pub FindsType : ℕ → TypeFound → Type 0
-FindsType n (Known type) = type_number type ≡ n
-FindsType n Unknown = last_type < n
+abbrev pub FindsType : ℕ → Option PacketType → Type 0
+FindsType n (Some type) = type_number type ≡ n
+FindsType n None = last_type < n
 
 -- the refusal in words
 abbrev pub Refuses : PacketError → ℕ → Outcome → Type 0

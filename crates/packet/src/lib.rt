@@ -64,13 +64,6 @@ pub enum Mode {
     Live,
 }
 
-// A type by its number: one of the three, or none.
-#[derive(Clone, Copy)]
-pub enum TypeFound {
-    Known(PacketType),
-    Unknown,
-}
-
 // A set of bits; an unknown bit is kept.
 #[derive(Clone, Copy)]
 pub struct PacketFlags(pub u16);
@@ -122,33 +115,32 @@ pub enum PacketError {
 }
 
 // The type's number on the wire.
-pub fn type_number(packet_type: PacketType) -> u16
-    ensures { NumbersType packet_type result }
-{
-    match packet_type {
-        PacketType::Message => 0,
-        PacketType::Ack => 1,
-        PacketType::SslAck => 2,
+impl From<PacketType> for u16 {
+    ghost from_gives = { λ type number. NumbersType type number };
+
+    fn from(packet_type: PacketType) -> u16 {
+        match packet_type {
+            PacketType::Message => 0,
+            PacketType::Ack => 1,
+            PacketType::SslAck => 2,
+        }
     }
 }
 
-// The type that has this number.
-pub fn type_of(number: u64) -> TypeFound
+// The type that has this number, if one has.
+pub fn type_of(number: u64) -> Option<PacketType>
     ensures { FindsType number result }
 {
-    if number == 0 {
-        return TypeFound::Known(PacketType::Message);
+    match number {
+        0 => Some(PacketType::Message),
+        1 => Some(PacketType::Ack),
+        2 => Some(PacketType::SslAck),
+        _ => None,
     }
-    if number == 1 {
-        return TypeFound::Known(PacketType::Ack);
-    }
-    if number == 2 {
-        return TypeFound::Known(PacketType::SslAck);
-    }
-    TypeFound::Unknown
 }
 
-// A refusal in document 01's number and values, after so many bytes consumed.
+// A refusal in document 01's number and values, after so many bytes consumed. Both are needed, so this is no `From` of
+// the error alone.
 pub fn refused(error: PacketError, consumed: usize) -> Outcome
     ensures { Refuses error consumed result }
 {

@@ -1,12 +1,14 @@
 -- Laws of the writer's checks: each refusal, and what is known where none is made. Assumes nothing.
 use mathlib.Core.Path.{◌≡◌, refl, sym, ◌∙◌, ap}
-use mathlib.Core.Bool.{Bool, true, false}
+use mathlib.Core.Bool.{Bool, true, false, true≢false}
+use Rattle.std.specs.Result.{IsErr, IsErrAnd}
+use Rattle.std.specs.declared.result.Result.TheVariants.{Ok, Err}
+use Rattle.packet_check.specs.Paper.{Measured, paper_measured}
 use mathlib.Core.List.{List, [], ◌∷◌}
 use Prim.Native.Nat.{ℕ, ◌%◌, ◌<◌, ◌≤◌}
-use native.Mathlib.Omega.{arith}
 use lib.ListN.{length}
 use borrow.Author.Tests.{eq-eqb, ne_eqb, lt-ltb, le-ltb, eqb-true, ltb-false, not-false}
-use Rattle.words.specs.Answer.{Answer, accepted, more, refused, refuse}
+use Rattle.words.specs.Answer.{Answer, accepted, refuse}
 use Rattle.words.specs.Decide.{decide}
 use Rattle.words.proofs.AcceptLaws.{is_accepted, accepted_count, silent, decided}
 use Rattle.packet.specs.Layout.{most_parts}
@@ -73,6 +75,12 @@ module _ (mode : Mode) (type : ℕ) (area table : List ℕ) where
   pub sizing_refuses : (error : PacketError) → refusal error 0 ≡ validating mode type area table → refusal error 0 ≡ sizing mode type area table
   unfolding validating sizing
   sizing_refuses error e = sym (decided (checks mode type area table) (accepted 0 []) (accepted (packet_size type (parts_of area table)) []) refl (sym e) refl)
+
+  -- what `?` hands on of a refusal by `validate`
+  pub sizing_err : (error : PacketError) (r : Measured) → IsErr r × IsErrAnd r (λ e. e ≡ error) → refusal error 0 ≡ validating mode type area table
+      → paper_measured r ≡ sizing mode type area table
+  sizing_err error (Ok size) told e = absurd (true≢false (sym told.0))
+  sizing_err error (Err other) told e = rw told.1 (sizing_refuses error e)
 
   pub sizing_passes : {size : ℕ} → accepted 0 [] ≡ validating mode type area table → size ≡ size_by type table → accepted size [] ≡ sizing mode type area table
   unfolding sizing

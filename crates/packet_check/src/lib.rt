@@ -7,28 +7,17 @@ ghost use Rattle.packet.specs.Paper.{type_number};
 ghost use Rattle.packet.specs.Entries.{room, is_too_large, taken};
 ghost use Rattle.packet_check.specs.Checks.{capped, first_too_large};
 ghost use Rattle.packet_check.specs.Stages.{outside_of, Small, size_by, taken_from};
-ghost use Rattle.packet_check.specs.Statement.{Validates, Measures};
+ghost use Rattle.packet_check.specs.Statement.{Validates, Measures, TellsMeasured};
 
 use packet::{
     ENTRY_WORDS, FIXED_HEADER_SIZE, HEADERS_SIZE, MAX_PART_COUNT, MAX_PART_SIZE, Mode,
     PART_HEADER_SIZE, PacketError, PacketType, has_variable_header, is_null, is_outside,
-    is_retired, type_number,
+    is_retired,
 };
+use words::outcome::{Outcome, taken};
 
 // The largest number that a refusal carries in 32 bits.
 const MAX_CARRIED: u32 = 0xffff_ffff;
-
-#[derive(Clone, Copy)]
-pub enum Validated {
-    Valid,
-    Refused(PacketError),
-}
-
-#[derive(Clone, Copy)]
-pub enum Measured {
-    Size(usize),
-    Refused(PacketError),
-}
 
 fn is_too_large(offset: u64, length: u64) -> bool
     ensures { result ≡ is_too_large offset length }
@@ -60,8 +49,7 @@ fn first_outside(given: u64, parts: &[u64]) -> usize
     ensures { result ≡ outside_of given parts.now }
 {
     let count = parts.len() / ENTRY_WORDS;
-    let mut index = 0;
-    while index < count {
+    for index in 0..count {
         if is_outside(
             given,
             parts[ENTRY_WORDS * index],
@@ -69,60 +57,62 @@ fn first_outside(given: u64, parts: &[u64]) -> usize
         ) {
             return index;
         }
-        index += 1;
     }
-    index
+    count
 }
 
 fn first_too_large(parts: &[u64]) -> usize
     ensures { result ≡ first_too_large parts.now }
 {
     let count = parts.len() / ENTRY_WORDS;
-    let mut index = 0;
-    while index < count {
+    for index in 0..count {
         if is_too_large(parts[ENTRY_WORDS * index], parts[ENTRY_WORDS * index + 1]) {
             return index;
         }
-        index += 1;
     }
-    index
+    count
 }
 
 // Checks that a packet of this type and these parts can be represented on the wire at all, that the table names only
 // bytes of the area, and that the type is not retired.
-pub fn validate(mode: Mode, packet_type: PacketType, area: &[u8], parts: &[u64]) -> Validated
+pub fn validate(
+    mode: Mode,
+    packet_type: PacketType,
+    area: &[u8],
+    parts: &[u64],
+) -> Result<(), PacketError>
     ensures { Validates mode packet_type area.now parts.now result }
 {
     let count = parts.len() / ENTRY_WORDS;
     if parts.len() % ENTRY_WORDS != 0 {
-        return Validated::Refused(PacketError::BadTable {
+        return Err(PacketError::BadTable {
             rule: 1,
             position: count as u64,
         });
     }
     let outside = first_outside(area.len() as u64, parts);
     if outside < count {
-        return Validated::Refused(PacketError::BadTable {
+        return Err(PacketError::BadTable {
             rule: 3,
             position: outside as u64,
         });
     }
     if is_retired(mode, packet_type) {
-        return Validated::Refused(PacketError::RetiredType(type_number(packet_type)));
+        return Err(PacketError::RetiredType(u16::from(packet_type)));
     }
     if (MAX_PART_COUNT as usize) < count {
-        return Validated::Refused(PacketError::TooManyParts {
+        return Err(PacketError::TooManyParts {
             count: cap(count as u64),
         });
     }
     let index = first_too_large(parts);
     if index < count {
-        return Validated::Refused(PacketError::PartTooLarge {
+        return Err(PacketError::PartTooLarge {
             index,
             size: cap(parts[ENTRY_WORDS * index + 1]),
         });
     }
-    Validated::Valid
+    Ok(())
 }
 
 // The bytes of all parts, null parts having none.
@@ -133,10 +123,8 @@ fn payload(parts: &[u64]) -> usize
 {
     let count = parts.len() / ENTRY_WORDS;
     let mut total: usize = 0;
-    let mut index = 0;
-    while index < count {
+    for index in 0..count {
         total += taken_by(parts[ENTRY_WORDS * index], parts[ENTRY_WORDS * index + 1]) as usize;
-        index += 1;
     }
     total
 }
@@ -154,11 +142,25 @@ fn size(packet_type: PacketType, parts: &[u64]) -> usize
 }
 
 // The number of bytes that a writer will write.
-pub fn encoded_size(mode: Mode, packet_type: PacketType, area: &[u8], parts: &[u64]) -> Measured
+pub fn encoded_size(
+    mode: Mode,
+    packet_type: PacketType,
+    area: &[u8],
+    parts: &[u64],
+) -> Result<usize, PacketError>
     ensures { Measures mode packet_type area.now parts.now result }
 {
-    match validate(mode, packet_type, area, parts) {
-        Validated::Refused(error) => Measured::Refused(error),
-        Validated::Valid => Measured::Size(size(packet_type, parts)),
+    validate(mode, packet_type, area, parts)?;
+    Ok(size(packet_type, parts))
+}
+
+// A number of bytes or a refusal in document 01's number and values, for the writer too. It is no `From`: neither a
+// `Result` nor an `Outcome` is this crate's.
+pub fn outcome(answer: Result<usize, PacketError>) -> Outcome
+    ensures { TellsMeasured answer result }
+{
+    match answer {
+        Ok(size) => taken(size as u64, 0, 0, 0),
+        Err(error) => packet::refused(error, 0),
     }
 }

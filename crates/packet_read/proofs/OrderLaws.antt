@@ -16,8 +16,11 @@ use Rattle.packet.specs.Layout.{packet_signature, most_parts, last_type, fixed_h
 use Rattle.packet.specs.declared.Mode.{Mode}
 use Rattle.packet.specs.Mode.{is_retired}
 use Rattle.packet_read.specs.Reading.{Limits, fails, order, first_too_large, first_failing, fixed_lines, count_lines, variable_lines, size_lines, part_lines, room_lines}
-use Rattle.packet_read.specs.declared.Variable.{Variable}
-use Rattle.packet_read.specs.declared.Variable.TheVariants as Variable
+use Rattle.std.specs.declared.option.Option.{Option}
+use Rattle.std.specs.declared.option.Option.TheVariants.{Some, None}
+use Rattle.std.specs.declared.result.Result.{Result}
+use Rattle.std.specs.declared.result.Result.TheVariants.{Ok, Err}
+use Rattle.packet.specs.declared.PacketError.{PacketError}
 use Rattle.packet_read.specs.Stages.{through, behind, SizedStage, VariableStage}
 
 -- one piece, then the other
@@ -164,9 +167,9 @@ module _ (n room : ℕ) (rest : Answer) where
   room_pass enough = rw (le-ltb _ _ enough)
 
 -- where the variable header's own lines are silent, its stage is the stage behind its checksum
-pub behind_variable : (s : List ℕ) (n limit : ℕ) (v : Variable) → ((rest : Answer) → through (variable_lines s n limit) rest ≡ rest)
+pub behind_variable : (s : List ℕ) (n limit : ℕ) (v : Result (Option ℕ) PacketError) → ((rest : Answer) → through (variable_lines s n limit) rest ≡ rest)
     → SizedStage s n limit v → VariableStage s n limit v
-behind_variable s n limit Variable.More quiet told = λ rest. quiet (through (size_lines s n limit) rest) ∙ told rest
-behind_variable s n limit (Variable.Refused error) quiet told = λ rest. quiet (through (size_lines s n limit) rest) ∙ told rest
-behind_variable s n limit (Variable.Whole total) quiet told =
+behind_variable s n limit (Ok None) quiet told = λ rest. quiet (through (size_lines s n limit) rest) ∙ told rest
+behind_variable s n limit (Err error) quiet told = λ rest. quiet (through (size_lines s n limit) rest) ∙ told rest
+behind_variable s n limit (Ok (Some total)) quiet told =
     ((λ rest. quiet (through (size_lines s n limit) rest) ∙ told.0 rest), told.1, told.2)

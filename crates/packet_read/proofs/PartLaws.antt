@@ -8,8 +8,8 @@ use lib.ListN.{take, drop}
 use Rattle.words.specs.Decide.{pick, ◌=?◌, first_from}
 use Rattle.words.proofs.DecideLaws.{first_miss, first_hit, first_end}
 use Rattle.crc64.specs.Polynomial.{checksum}
-use Rattle.packet_read.specs.declared.Verdict.{Verdict}
-use Rattle.packet_read.specs.declared.Verdict.TheVariants.{Passed, Failed}
+use Rattle.std.specs.declared.result.Result.{Result}
+use Rattle.std.specs.declared.result.Result.TheVariants.{Ok, Err}
 use Rattle.packet.specs.Layout.{null_size, headers, size, taken, taken_before, part_sum, start, whole, part}
 use Rattle.packet_read.specs.Reading.{part_fails, first_failing}
 use Rattle.packet_read.specs.Stages.{PartVerifies}
@@ -47,18 +47,18 @@ module _ (s : List ℕ) (n : ℕ) where
 
     -- and its checksum word
     module _ (stored : ℕ) (sum : stored ≡ part_sum s n i) where
-      told_of_part : (v : Verdict) → PartVerifies found stored (take (at + more - at) (drop at s)) v → PartVerifies (size s i) (part_sum s n i) (part s n i) v
+      told_of_part : (v : Result (Unit {0}) ℕ) → PartVerifies found stored (take (at + more - at) (drop at s)) v → PartVerifies (size s i) (part_sum s n i) (part s n i) v
       told_of_part v told = of found stored (take (at + more - at) (drop at s)) read sum part_is told
         where
           of : (f w : ℕ) (b : List ℕ) → f ≡ size s i → w ≡ part_sum s n i → b ≡ part s n i → PartVerifies f w b v → PartVerifies (size s i) (part_sum s n i) (part s n i) v
           of f w b p q r h = rw (p, q, r) at h
 
       module _ (below : i < n) (left : first_from (part_fails s n) i (n - i) ≡ first_failing s n) where
-        pub parts_miss : PartVerifies found stored (take (at + more - at) (drop at s)) Passed → first_from (part_fails s n) (i + 1) (n - (i + 1)) ≡ first_failing s n
-        parts_miss told = sym (first_miss (part_fails s n) i n below (told_of_part Passed told)) ∙ left
+        pub parts_miss : PartVerifies found stored (take (at + more - at) (drop at s)) (Ok tt) → first_from (part_fails s n) (i + 1) (n - (i + 1)) ≡ first_failing s n
+        parts_miss told = sym (first_miss (part_fails s n) i n below (told_of_part (Ok tt) told)) ∙ left
 
-        pub parts_hit : (actual : ℕ) → PartVerifies found stored (take (at + more - at) (drop at s)) (Failed actual) → first_failing s n ≡ i
-        parts_hit actual told = sym left ∙ first_hit (part_fails s n) i n below (told_of_part (Failed actual) told).0
+        pub parts_hit : (actual : ℕ) → PartVerifies found stored (take (at + more - at) (drop at s)) (Err actual) → first_failing s n ≡ i
+        parts_hit actual told = sym left ∙ first_hit (part_fails s n) i n below (told_of_part (Err actual) told).0
 
-        pub parts_actual : (actual : ℕ) → PartVerifies found stored (take (at + more - at) (drop at s)) (Failed actual) → actual ≡ checksum (part s n i)
-        parts_actual actual told = (told_of_part (Failed actual) told).1
+        pub parts_actual : (actual : ℕ) → PartVerifies found stored (take (at + more - at) (drop at s)) (Err actual) → actual ≡ checksum (part s n i)
+        parts_actual actual told = (told_of_part (Err actual) told).1

@@ -5,8 +5,7 @@ use Rattle.words.specs.Statement.{OneResult}
 use Rattle.words.proofs.Unique.{means_one, holds_one}
 use Rattle.packet.specs.declared.Mode.{Mode}
 use Rattle.packet.specs.Entries.{entries}
-use Rattle.packet_answer.specs.declared.Decoded.{Decoded}
-use Rattle.packet_answer.specs.Paper.{paper}
+use Rattle.packet_answer.specs.Paper.{Decoded, paper}
 use Rattle.packet_answer.proofs.Back.{back, paper_back_lem}
 use Rattle.packet_read.specs.Reading.{Limits, limited, reading}
 use Rattle.packet_read.specs.Statement.{Decodes, default_ceiling}

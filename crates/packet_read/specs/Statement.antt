@@ -2,8 +2,7 @@
 use Rattle.std.specs.Prelude.{ℕ, List}
 use Rattle.words.specs.Statement.{Means, Holds}
 use Rattle.packet.specs.Entries.{entries}
-use Rattle.packet_answer.specs.declared.Decoded.{Decoded}
-use Rattle.packet_answer.specs.Paper.{paper}
+use Rattle.packet_answer.specs.Paper.{Decoded, paper}
 use Rattle.packet_read.specs.Reading.{Limits, reading}
 
 -- reading s under these limits answers r, and the table that held `table` holds `after`

@@ -19,64 +19,27 @@ use packet::{
     CHECKSUM_BYTES, COUNT_AT, ENTRY_WORDS, FIXED_FIELDS_SIZE, FIXED_HEADER_SIZE, FLAGS_AT,
     HEADERS_SIZE, ID_AT, MAX_PART_COUNT, MAX_PART_SIZE, Mode, NULL_CHECKSUM, NULL_LENGTH,
     NULL_PART_SIZE, PART_HEADER_SIZE, Packet, PacketError, PacketFlags, PacketType, SIGNATURE,
-    SIZE_BYTES, TYPE_AT, TypeFound, has_variable_header, is_retired,
+    SIZE_BYTES, TYPE_AT, has_variable_header, is_retired,
 };
-use packet_answer::Decoded;
+use packet_answer::{Decoded, Read, Refusal};
 use word_read::{read_u16, read_u32, read_u64};
 use words::outcome::{NoRoom, Room};
 
 // How many parts `decode` accepts in one packet.
 pub const DEFAULT_MAX_PART_COUNT: u32 = 0x1_0000;
 
-#[derive(Clone, Copy)]
-enum Verdict {
-    Passed,
-    Failed(u64),
-}
-
-#[derive(Clone, Copy)]
-enum Fixed {
-    More,
-    Refused(PacketError),
-    Header(Packet),
-}
-
-#[derive(Clone, Copy)]
-enum Sizes {
-    TooLarge { index: usize, size: u32 },
-    Payload(u64),
-}
-
-#[derive(Clone, Copy)]
-enum Variable {
-    More,
-    Refused(PacketError),
-    Whole(usize),
-}
-
-#[derive(Clone, Copy)]
-enum Parts {
-    Failing {
-        index: usize,
-        expected: u64,
-        actual: u64,
-        consumed: usize,
-    },
-    Good,
-}
-
-// Whether bytes carry the checksum stored for them.
-fn verified(stored: u64, bytes: &[u8]) -> Verdict
+// Whether bytes carry the checksum stored for them; if not, the checksum that they have.
+fn verified(stored: u64, bytes: &[u8]) -> Result<(), u64>
     ensures { Verifies stored bytes.now result }
 {
     if stored == NULL_CHECKSUM {
-        return Verdict::Passed;
+        return Ok(());
     }
     let actual = checksum::checksum(bytes);
     if actual == stored {
-        return Verdict::Passed;
+        return Ok(());
     }
-    Verdict::Failed(actual)
+    Err(actual)
 }
 
 fn header(input: &[u8], packet_type: PacketType) -> Packet
@@ -91,32 +54,29 @@ fn header(input: &[u8], packet_type: PacketType) -> Packet
     }
 }
 
-fn fixed_header(mode: Mode, input: &[u8]) -> Fixed
+// The packet's header, or nothing as yet where more bytes are needed.
+fn fixed_header(mode: Mode, input: &[u8]) -> Result<Option<Packet>, PacketError>
     ensures { FixedStage mode input.now result }
 {
     if input.len() < FIXED_HEADER_SIZE {
-        return Fixed::More;
+        return Ok(None);
     }
     let signature = read_u32(input, 0);
     if signature != SIGNATURE {
-        return Fixed::Refused(PacketError::Signature(signature));
+        return Err(PacketError::Signature(signature));
     }
     let raw = read_u16(input, TYPE_AT);
-    match packet::type_of(raw as u64) {
-        TypeFound::Unknown => Fixed::Refused(PacketError::UnknownType(raw)),
-        TypeFound::Known(packet_type) => {
-            if is_retired(mode, packet_type) {
-                return Fixed::Refused(PacketError::RetiredType(raw));
-            }
-            let expected = read_u64(input, FIXED_FIELDS_SIZE);
-            match verified(expected, &input[..FIXED_FIELDS_SIZE]) {
-                Verdict::Failed(actual) => {
-                    Fixed::Refused(PacketError::FixedHeaderChecksum { expected, actual })
-                }
-                Verdict::Passed => Fixed::Header(header(input, packet_type)),
-            }
-        }
+    let Some(packet_type) = packet::type_of(raw as u64) else {
+        return Err(PacketError::UnknownType(raw));
+    };
+    if is_retired(mode, packet_type) {
+        return Err(PacketError::RetiredType(raw));
     }
+    let expected = read_u64(input, FIXED_FIELDS_SIZE);
+    if let Err(actual) = verified(expected, &input[..FIXED_FIELDS_SIZE]) {
+        return Err(PacketError::FixedHeaderChecksum { expected, actual });
+    }
+    Ok(Some(header(input, packet_type)))
 }
 
 // The bytes that a part takes, by its size word.
@@ -158,103 +118,93 @@ fn sum_word(input: &[u8], count: usize, index: usize) -> u64
     read_u64(&input[at..at + CHECKSUM_BYTES], 0)
 }
 
-fn payload(input: &[u8], count: usize) -> Sizes
+// The bytes that the parts take together.
+fn payload(input: &[u8], count: usize) -> Result<u64, PacketError>
     requires { (headers count ≤ length input.now) × (count ≤ most_parts) }
     ensures { SizesStage input.now count result }
 {
     let mut payload: u64 = 0;
-    let mut index = 0;
-    while index < count {
+    for index in 0..count {
         let size = size_word(input, index);
         if too_large(size) {
-            return Sizes::TooLarge { index, size };
+            return Err(PacketError::PartTooLarge { index, size });
         }
         payload += taken(size);
-        index += 1;
     }
-    Sizes::Payload(payload)
+    Ok(payload)
 }
 
-fn sized(input: &[u8], count: usize, limit: u64) -> Variable
+// The bytes of the whole packet, or nothing as yet where more are needed.
+fn sized(input: &[u8], count: usize, limit: u64) -> Result<Option<usize>, PacketError>
     requires { (headers count ≤ length input.now) × (count ≤ most_parts) }
     ensures { SizedStage input.now count limit result }
 {
-    match payload(input, count) {
-        Sizes::TooLarge { index, size } => {
-            Variable::Refused(PacketError::PartTooLarge { index, size })
-        }
-        Sizes::Payload(payload) => {
-            let size = (HEADERS_SIZE + PART_HEADER_SIZE * count) as u64 + payload;
-            if limit < size {
-                return Variable::Refused(PacketError::MessageTooLarge { size, limit });
-            }
-            if (input.len() as u64) < size {
-                return Variable::More;
-            }
-            Variable::Whole(size as usize)
-        }
+    let payload = payload(input, count)?;
+    let size = (HEADERS_SIZE + PART_HEADER_SIZE * count) as u64 + payload;
+    if limit < size {
+        return Err(PacketError::MessageTooLarge { size, limit });
     }
+    if (input.len() as u64) < size {
+        return Ok(None);
+    }
+    Ok(Some(size as usize))
 }
 
-fn variable_header(input: &[u8], count: usize, limit: u64) -> Variable
+// The same, behind the checksum of the variable header.
+fn variable_header(input: &[u8], count: usize, limit: u64) -> Result<Option<usize>, PacketError>
     requires { count ≤ most_parts }
     ensures { VariableStage input.now count limit result }
 {
     let size = HEADERS_SIZE + PART_HEADER_SIZE * count;
     if limit < size as u64 {
-        return Variable::Refused(PacketError::MessageTooLarge {
+        return Err(PacketError::MessageTooLarge {
             size: size as u64,
             limit,
         });
     }
     if input.len() < size {
-        return Variable::More;
+        return Ok(None);
     }
     let sums = FIXED_HEADER_SIZE + PART_HEADER_SIZE * count;
     let expected = read_u64(input, sums);
-    match verified(expected, &input[FIXED_HEADER_SIZE..sums]) {
-        Verdict::Failed(actual) => {
-            Variable::Refused(PacketError::VariableHeaderChecksum { expected, actual })
-        }
-        Verdict::Passed => sized(input, count, limit),
+    if let Err(actual) = verified(expected, &input[FIXED_HEADER_SIZE..sums]) {
+        return Err(PacketError::VariableHeaderChecksum { expected, actual });
     }
+    sized(input, count, limit)
 }
 
 // A null part's checksum word is not looked at.
-fn check_part(stored: u64, size: u32, bytes: &[u8]) -> Verdict
+fn check_part(stored: u64, size: u32, bytes: &[u8]) -> Result<(), u64>
     ensures { PartVerifies size stored bytes.now result }
 {
     if size == NULL_PART_SIZE {
-        return Verdict::Passed;
+        return Ok(());
     }
     verified(stored, bytes)
 }
 
-fn check_parts(input: &[u8], count: usize) -> Parts
+fn check_parts(input: &[u8], count: usize) -> Result<(), Refusal>
     requires { (whole input.now count ≤ length input.now) × (count ≤ most_parts) }
     ensures { PartsStage input.now count result }
 {
     let mut at = HEADERS_SIZE + PART_HEADER_SIZE * count;
-    let mut index = 0;
-    while index < count {
+    for index in 0..count {
         let size = size_word(input, index);
         let end = at + taken(size) as usize;
         let expected = sum_word(input, count, index);
-        match check_part(expected, size, &input[at..end]) {
-            Verdict::Failed(actual) => {
-                return Parts::Failing {
+        if let Err(actual) = check_part(expected, size, &input[at..end]) {
+            return Err(Refusal {
+                error: PacketError::PartChecksum {
                     index,
                     expected,
                     actual,
-                    consumed: end,
-                };
-            }
-            Verdict::Passed => {}
+                },
+                consumed: end,
+            });
         }
         at = end;
-        index += 1;
     }
-    Parts::Good
+    Ok(())
 }
 
 fn offset_word(size: u32, at: u64) -> u64
@@ -280,15 +230,13 @@ fn fill(input: &[u8], count: usize, parts: &mut [u64])
     ensures { parts.new ≡ over (entries_from input.now count 0 count) parts.old }
 {
     let mut at = (HEADERS_SIZE + PART_HEADER_SIZE * count) as u64;
-    let mut index = 0;
-    while index < count {
+    for index in 0..count {
         let size = size_word(input, index);
         let sum = sum_word(input, count, index);
         parts[ENTRY_WORDS * index] = offset_word(size, at);
         parts[ENTRY_WORDS * index + 1] = length_word(size);
         parts[ENTRY_WORDS * index + 2] = sum;
         at += taken(size);
-        index += 1;
     }
 }
 
@@ -307,40 +255,20 @@ fn body(input: &[u8], packet: Packet, count: usize, limit: u64, parts: &mut [u64
     requires { (fields_of packet ≡ fields input.now) × (count ≤ most_parts) × (count ≡ Layout.count input.now) }
     ensures { BodyStage input.now count limit parts.old result parts.new }
 {
-    match variable_header(input, count, limit) {
-        Variable::More => Decoded::More,
-        Variable::Refused(error) => Decoded::Refused { error, consumed: 0 },
-        Variable::Whole(consumed) => match check_parts(input, count) {
-            Parts::Failing {
-                index,
-                expected,
-                actual,
-                consumed,
-            } => Decoded::Refused {
-                error: PacketError::PartChecksum {
-                    index,
-                    expected,
-                    actual,
-                },
-                consumed,
-            },
-            Parts::Good => {
-                let room = parts.len() / ENTRY_WORDS;
-                if room < count {
-                    return Decoded::Refused {
-                        error: PacketError::NoRoom(NoRoom {
-                            room: Room::Parts,
-                            needed: count as u64,
-                            given: room as u64,
-                        }),
-                        consumed: 0,
-                    };
-                }
-                fill(input, count, parts);
-                Decoded::Read { packet, consumed }
-            }
-        },
+    let Some(consumed) = variable_header(input, count, limit)? else {
+        return Ok(None);
+    };
+    check_parts(input, count)?;
+    let room = parts.len() / ENTRY_WORDS;
+    if room < count {
+        return Err(Refusal::from(PacketError::NoRoom(NoRoom {
+            room: Room::Parts,
+            needed: count as u64,
+            given: room as u64,
+        })));
     }
+    fill(input, count, parts);
+    Ok(Some(Read { packet, consumed }))
 }
 
 // Reads one packet from the front of `input`, if a whole one is there.
@@ -354,27 +282,21 @@ pub fn decode_with(
     ensures { Decodes input.now (limited mode max_message_size max_part_count parts.old)
         parts.old result parts.new }
 {
-    match fixed_header(mode, input) {
-        Fixed::More => Decoded::More,
-        Fixed::Refused(error) => Decoded::Refused { error, consumed: 0 },
-        Fixed::Header(packet) => {
-            let count = packet.parts;
-            if most_parts(max_part_count) < count {
-                return Decoded::Refused {
-                    error: PacketError::TooManyParts { count },
-                    consumed: 0,
-                };
-            }
-            let packet_type = packet.packet_type;
-            if has_variable_header(packet_type, count as usize) {
-                return body(input, packet, count as usize, max_message_size, parts);
-            }
-            Decoded::Read {
-                packet,
-                consumed: FIXED_HEADER_SIZE,
-            }
-        }
+    let Some(packet) = fixed_header(mode, input)? else {
+        return Ok(None);
+    };
+    let count = packet.parts;
+    if most_parts(max_part_count) < count {
+        return Err(Refusal::from(PacketError::TooManyParts { count }));
     }
+    let packet_type = packet.packet_type;
+    if has_variable_header(packet_type, count as usize) {
+        return body(input, packet, count as usize, max_message_size, parts);
+    }
+    Ok(Some(Read {
+        packet,
+        consumed: FIXED_HEADER_SIZE,
+    }))
 }
 
 // Reads one packet from the front of `input`, of at most 65,536 parts.

@@ -1,6 +1,8 @@
 -- A whole packet, and the answers of writing. Assumes nothing.
 use mathlib.Core.Path.{◌≡◌, refl, sym, ◌∙◌, ap, subst}
-use mathlib.Core.Bool.{Bool, true, false}
+use mathlib.Core.Bool.{Bool, true, false, true≢false}
+use Rattle.std.specs.Result.{IsErr, IsErrAnd}
+use Rattle.std.specs.declared.result.Result.TheVariants.{Ok, Err}
 use mathlib.Core.List.{List, [], ◌∷◌, ◌++◌, append-nil}
 use Prim.Native.Nat.{ℕ, ◌+◌, ◌<◌, ◌≤◌}
 use native.Mathlib.Omega.{arith}
@@ -17,8 +19,7 @@ use Rattle.packet.specs.Paper.{type_number, refusal}
 use Rattle.packet.specs.declared.Mode.{Mode}
 use Rattle.packet.specs.declared.PacketType.{PacketType}
 use Rattle.packet.specs.declared.PacketFlags.{PacketFlags}
-use Rattle.packet_write.specs.declared.Encoded.{Encoded}
-use Rattle.packet_write.specs.Paper.{paper}
+use Rattle.packet_write.specs.Paper.{Encoded, paper}
 use Rattle.packet_write.specs.Statement.{Encodes, bytes_for}
 use Rattle.packet.specs.declared.PacketError.{PacketError}
 use Rattle.packet.specs.Wire.{sealed, fixed_fields, body, packet_bytes, packet_size, parts_of}
@@ -103,3 +104,11 @@ pub encodes : {mode : Mode} {type : PacketType} {flags : PacketFlags} {id : Guid
     → Encodes mode type flags id area table out r after
 encodes {mode} {type} {flags} {id} {area} {table} {out} told holds =
     record { answer = told; output = holds ∙ ap (λ (a : Answer). afterwards a (bytes_for type flags id area table) out) told }
+
+-- what `?` hands on of a refusal by `encoded_size`, the output as it was
+pub encodes_err : (mode : Mode) (type : PacketType) (flags : PacketFlags) (id : Guid) (area table out : List ℕ) (error : PacketError) (r : Encoded)
+    → IsErr r × IsErrAnd r (λ e. e ≡ error) → refusal error 0 ≡ sizing mode (type_number type) area table
+    → Encodes mode type flags id area table out r out
+encodes_err mode type flags id area table out error (Ok size) told e = absurd (true≢false (sym told.0))
+encodes_err mode type flags id area table out error (Err other) told e =
+    encodes (rw told.1 (writing_refuses mode (type_number type) area table (length out) error e)) refl

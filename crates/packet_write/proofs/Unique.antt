@@ -12,18 +12,17 @@ use Rattle.packet.specs.declared.PacketType.{PacketType}
 use Rattle.packet.specs.declared.PacketFlags.{PacketFlags}
 use Rattle.packet.specs.Paper.{type_number}
 use Rattle.packet.proofs.Back.{told, told_back}
-use Rattle.packet_write.specs.declared.Encoded.{Encoded}
-use Rattle.packet_write.specs.declared.Encoded.TheVariants.{Written, Refused}
-use Rattle.packet_write.specs.Paper.{paper}
+use Rattle.std.specs.declared.result.Result.TheVariants.{Ok, Err}
+use Rattle.packet_write.specs.Paper.{Encoded, paper}
 use Rattle.packet_write.specs.Writing.{writing}
 use Rattle.packet_write.specs.Statement.{Encodes, bytes_for}
 
 abbrev encoded_back_lem : Answer → Encoded
-encoded_back_lem = told Written Refused
+encoded_back_lem = told Ok Err
 
 encoded_undone : (r : Encoded) → encoded_back_lem (paper r) ≡ r
-encoded_undone (Written size) = refl
-encoded_undone (Refused error) = told_back Written Refused error 0
+encoded_undone (Ok size) = refl
+encoded_undone (Err error) = told_back Ok Err error 0
 
 pub encode_unique : (mode : Mode) (type : PacketType) (flags : PacketFlags) (id : Guid) (area table out : List ℕ)
     → OneResult (λ (x : Encoded × List ℕ). Encodes mode type flags id area table out x.0 x.1)

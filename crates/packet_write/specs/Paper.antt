@@ -1,10 +1,10 @@
--- What the enum means in document 01's terms. Assumes nothing.
-use Rattle.std.specs.Prelude.{[]}
-use Rattle.words.specs.Answer.{Answer, accepted}
-use Rattle.packet.specs.Paper.{refusal}
-use Rattle.packet_write.specs.declared.Encoded.{Encoded}
-use Rattle.packet_write.specs.declared.Encoded.TheVariants.{Written, Refused}
+-- What the answer means in document 01's terms: a size is told as the checks tell it. Assumes nothing.
+use Rattle.words.specs.Answer.{Answer}
+use Rattle.packet_check.specs.Paper.{Measured, paper_measured}
+
+-- the bytes that were written, or a refusal
+abbrev pub Encoded : Type 0
+Encoded = Measured
 
 abbrev pub paper : Encoded → Answer
-paper (Written size) = accepted size []
-paper (Refused error) = refusal error 0
+paper = paper_measured

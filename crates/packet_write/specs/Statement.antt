@@ -7,8 +7,7 @@ use Rattle.packet.specs.declared.PacketType.{PacketType}
 use Rattle.packet.specs.declared.PacketFlags.{PacketFlags}
 use Rattle.packet.specs.Paper.{type_number}
 use Rattle.packet.specs.Wire.{packet_bytes, parts_of}
-use Rattle.packet_write.specs.declared.Encoded.{Encoded}
-use Rattle.packet_write.specs.Paper.{paper}
+use Rattle.packet_write.specs.Paper.{Encoded, paper}
 use Rattle.packet_write.specs.Writing.{writing}
 
 -- the bytes of a packet with the parts that a table names in an area

@@ -19,17 +19,10 @@ use guid::Guid;
 use packet::{
     CHECKSUM_BYTES, COUNT_AT, ENTRY_WORDS, FIXED_FIELDS_SIZE, FIXED_HEADER_SIZE, FLAGS_AT, ID_AT,
     Mode, NULL_PART_SIZE, PART_HEADER_SIZE, PacketError, PacketFlags, PacketType, SIGNATURE,
-    SIZE_BYTES, TYPE_AT, type_number,
+    SIZE_BYTES, TYPE_AT,
 };
-use packet_check::Measured;
 use word_write::{write_u16, write_u32, write_u64};
 use words::outcome::{NoRoom, Room};
-
-#[derive(Clone, Copy)]
-pub enum Encoded {
-    Written(usize),
-    Refused(PacketError),
-}
 
 fn size_word(offset: u64, length: u64) -> u32
     requires { is_too_large offset length ≡ false }
@@ -56,7 +49,7 @@ fn write_fields(packet_type: PacketType, flags: PacketFlags, id: Guid, count: u3
         ≡ over (fixed_fields (type_number packet_type) flags.0 id count) out.old }
 {
     write_u32(out, SIGNATURE);
-    write_u16(&mut out[TYPE_AT..], type_number(packet_type));
+    write_u16(&mut out[TYPE_AT..], u16::from(packet_type));
     write_u16(&mut out[FLAGS_AT..], flags.0);
     id.write(&mut out[ID_AT..]);
     write_u32(&mut out[COUNT_AT..], count);
@@ -68,12 +61,10 @@ fn write_sizes(parts: &[u64], out: &mut [u8])
         ≡ over (entry_sizes parts.now 0 (room parts.now)) out.old }
 {
     let count = parts.len() / ENTRY_WORDS;
-    let mut index = 0;
-    while index < count {
+    for index in 0..count {
         let size = size_word(parts[ENTRY_WORDS * index], parts[ENTRY_WORDS * index + 1]);
         let at = SIZE_BYTES * index;
         write_u32(&mut out[at..], size);
-        index += 1;
     }
 }
 
@@ -98,14 +89,12 @@ fn write_parts(area: &[u8], parts: &[u64], out: &mut [u8])
     let count = parts.len() / ENTRY_WORDS;
     let mut sum_at = 0;
     let mut part_at = CHECKSUM_BYTES * count + CHECKSUM_BYTES;
-    let mut index = 0;
-    while index < count {
+    for index in 0..count {
         let bytes = packet::part(area, parts, index);
         let register = copied(bytes, &mut out[part_at..]);
         part_at += bytes.len();
         write_u64(&mut out[sum_at..], crc64::swap_bytes(register));
         sum_at += CHECKSUM_BYTES;
-        index += 1;
     }
 }
 
@@ -162,22 +151,18 @@ pub fn encode(
     area: &[u8],
     parts: &[u64],
     out: &mut [u8],
-) -> Encoded
+) -> Result<usize, PacketError>
     ensures { Encodes mode packet_type flags id area.now parts.now out.old
         result out.new }
 {
-    match packet_check::encoded_size(mode, packet_type, area, parts) {
-        Measured::Refused(error) => Encoded::Refused(error),
-        Measured::Size(needed) => {
-            if out.len() < needed {
-                return Encoded::Refused(PacketError::NoRoom(NoRoom {
-                    room: Room::Output,
-                    needed: needed as u64,
-                    given: out.len() as u64,
-                }));
-            }
-            write_packet(packet_type, flags, id, area, parts, out);
-            Encoded::Written(needed)
-        }
+    let needed = packet_check::encoded_size(mode, packet_type, area, parts)?;
+    if out.len() < needed {
+        return Err(PacketError::NoRoom(NoRoom {
+            room: Room::Output,
+            needed: needed as u64,
+            given: out.len() as u64,
+        }));
     }
+    write_packet(packet_type, flags, id, area, parts, out);
+    Ok(needed)
 }

@@ -2,16 +2,15 @@
 use mathlib.Core.Path.{◌≡◌, refl, sym, ◌∙◌, ap}
 use mathlib.Core.Bool.{Bool, true, false, true≢false}
 use mathlib.Core.List.{List, [], ◌∷◌, ◌++◌}
-use Prim.Native.Nat.{ℕ, ◌+◌, ◌/◌, ◌<◌, ◌≤◌}
+use Prim.Native.Nat.{ℕ, ◌/◌, ◌<◌, ◌≤◌}
 use Prim.Native.String.{String}
-use native.Mathlib.Omega.{arith}
 use borrow.Author.Tests.{lt-ltb, le-ltb, ltb-true}
 use lib.ListN.{length}
 use Rattle.words.specs.Answer.{Answer, accepted, more, refused, refuse}
 use Rattle.words.specs.Paper.{outcome}
 use Rattle.words.specs.declared.outcome.Outcome.{Outcome}
 use Rattle.words.specs.Decide.{pick, Line, ◌⇒◌, decide, ◌<?◌}
-use Rattle.words.specs.Note.{Told, ◌because◌, plainly, answer_of, answers}
+use Rattle.words.specs.Note.{Told, ◌because◌, plainly, answer_of}
 use Rattle.words.proofs.DecideLaws.{decide_append, answers_decide}
 use Rattle.packet.specs.Layout.{count, whole, fields, fixed_header_size, headers}
 use Rattle.packet.specs.Entries.{entry_words}
@@ -20,13 +19,13 @@ use Rattle.packet.specs.Paper.{number_of, values_of}
 use Rattle.packet.specs.Statement.{Refuses}
 use Rattle.packet.specs.declared.PacketError.{PacketError}
 use Rattle.packet.specs.declared.PacketError.TheVariants.{PartTooLarge, PartChecksum}
-use Rattle.packet_read.specs.Reading.{Limits, limited, order, reading, fixed_lines, count_lines, variable_lines, size_lines, part_lines, room_lines}
-use Rattle.packet_answer.specs.Paper.{paper}
+use Rattle.packet_read.specs.Reading.{limited, order, reading, fixed_lines, count_lines, variable_lines, size_lines, part_lines, room_lines}
+use Rattle.packet_answer.specs.Paper.{Decoded, paper}
 use Rattle.packet_answer.specs.Statement.{TellsDecoded}
 use Rattle.packet_read.specs.Statement.{Decodes}
-use Rattle.packet_answer.specs.declared.Decoded.{Decoded}
-use Rattle.packet_answer.specs.declared.Decoded.TheVariants.{Read, More, Refused}
-use Rattle.packet.specs.declared.Packet.{Packet}
+use Rattle.packet_answer.specs.declared.Read.{Read}
+use Rattle.std.specs.declared.option.Option.TheVariants.{Some, None}
+use Rattle.std.specs.declared.result.Result.TheVariants.{Ok, Err}
 use Rattle.finding.specs.Saying.{Saying, fine, waiting, saying, untold, explain}
 use Rattle.why_packet.specs.Checks.{checks, packet_checks}
 use Rattle.why_packet.specs.Stages.{length_name, refusal_tells, Inside, more_tells, tells, within, answer_to, Waits}
@@ -141,28 +140,28 @@ module _ (s : List ℕ) (mode : Mode) (limit ceiling : ℕ) (table : List ℕ) (
   answer_stands = rw answered at (told_right s (count s) mode limit ceiling table).1
 
   -- case by case, the count of parts being k
-  pub read_fine : (p : Packet) (consumed : ℕ) → r ≡ Read p consumed → fine ≡ explain (packet_checks s mode limit ceiling)
+  pub read_fine : (read : Read) → r ≡ Ok (Some read) → fine ≡ explain (packet_checks s mode limit ceiling)
   unfolding tells
-  read_fine p consumed e = rw e at answer_tells
+  read_fine read e = rw e at answer_tells
 
   module _ (k : ℕ) (is : k ≡ count s) where
-    pub more_waits : r ≡ More → Waits s k mode ceiling
+    pub more_waits : r ≡ Ok None → Waits s k mode ceiling
     more_waits e =
         let stands : Stands s (count s) mode limit ceiling table more = rw e at answer_stands in
         rw is (refl, stands)
 
-    pub more_explains : (told-it : Saying) → r ≡ More → told-it ≡ more_tells s k → told-it ≡ explain (packet_checks s mode limit ceiling)
+    pub more_explains : (told-it : Saying) → r ≡ Ok None → told-it ≡ more_tells s k → told-it ≡ explain (packet_checks s mode limit ceiling)
     unfolding tells
     more_explains told-it e Told-more =
         let telling : more_tells s (count s) ≡ explain (packet_checks s mode limit ceiling) = rw e at answer_tells in
         Told-more ∙ ap (more_tells s) is ∙ telling
 
-    pub refusal_inside : (error : PacketError) (consumed : ℕ) → r ≡ Refused error consumed → Inside k (number_of error) (values_of error)
+    pub refusal_inside : (error : PacketError) (consumed : ℕ) → r ≡ Err record { error = error; consumed = consumed; } → Inside k (number_of error) (values_of error)
     refusal_inside error consumed e =
         let stands : Inside (count s) (number_of error) (values_of error) = rw e at answer_stands in
         rw is stands
 
-    pub refusal_explains : (error : PacketError) (consumed : ℕ) (told-it : Saying) → r ≡ Refused error consumed → told-it ≡ refusal_tells k ceiling (number_of error) (values_of error)
+    pub refusal_explains : (error : PacketError) (consumed : ℕ) (told-it : Saying) → r ≡ Err record { error = error; consumed = consumed; } → told-it ≡ refusal_tells k ceiling (number_of error) (values_of error)
         → told-it ≡ explain (packet_checks s mode limit ceiling)
     unfolding tells
     refusal_explains error consumed told-it e told-refusal =

@@ -1,5 +1,5 @@
 -- What the private stages hand on: nobody has to believe it. What is told, by what the reader answers. Assumes nothing.
-use Rattle.std.specs.Prelude.{ℕ, min, Bool, true, false, ◌||◌, ◌≡◌, List, [], ◌∷◌, length, get_or}
+use Rattle.std.specs.Prelude.{ℕ, min, true, false, ◌||◌, ◌≡◌, List, [], ◌∷◌, length, get_or}
 use Prim.Native.String.{String}
 use Rattle.words.specs.Answer.{Answer, accepted, more, refused, refuse}
 use Rattle.words.specs.Decide.{pick, ◌⇒◌, ◌<?◌, ◌=?◌, decide}

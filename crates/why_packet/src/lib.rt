@@ -13,9 +13,9 @@ use finding::{Field, Finding, Wanted};
 use packet::{
     CHECKSUM_BYTES, COUNT_AT, FIXED_FIELDS_SIZE, FIXED_HEADER_SIZE, HEADERS_SIZE, MAX_PART_COUNT,
     MAX_PART_SIZE, Mode, PART_HEADER_SIZE, PacketError, PacketType, SIGNATURE, SIZE_BYTES, TYPE_AT,
-    refused, type_number,
+    refused,
 };
-use packet_answer::{Decoded, outcome};
+use packet_answer::{Refusal, outcome};
 use packet_read::decode_with;
 use word_read::read_u32;
 
@@ -62,7 +62,7 @@ fn refusal(count: u32, error: PacketError, max_part_count: u32) -> Finding
             field: Field::TypeCode,
             offset: TYPE_AT as u64,
             found: found as u64,
-            wanted: Wanted::Number(type_number(PacketType::SslAck) as u64),
+            wanted: Wanted::Number(u16::from(PacketType::SslAck) as u64),
         },
         PacketError::RetiredType(found) => Finding::Refused {
             number,
@@ -120,10 +120,7 @@ fn refusal(count: u32, error: PacketError, max_part_count: u32) -> Finding
             wanted: Wanted::Number(actual),
         },
         PacketError::NoRoom(_) => Finding::Fine,
-        PacketError::BadTable {
-            rule: _,
-            position: _,
-        } => Finding::Fine,
+        PacketError::BadTable { .. } => Finding::Fine,
     }
 }
 
@@ -157,12 +154,9 @@ fn explain_with(
 {
     let count = read_u32(input, COUNT_AT);
     match decode_with(mode, input, max_message_size, max_part_count, none) {
-        Decoded::Read {
-            packet: _,
-            consumed: _,
-        } => Finding::Fine,
-        Decoded::More => waited(mode, input, count, max_part_count, none),
-        Decoded::Refused { error, consumed: _ } => refusal(count, error, max_part_count),
+        Ok(Some(_)) => Finding::Fine,
+        Ok(None) => waited(mode, input, count, max_part_count, none),
+        Err(Refusal { error, consumed: _ }) => refusal(count, error, max_part_count),
     }
 }
 

@@ -4,14 +4,10 @@
 
 use input::Input;
 use std::io::{Read, Write};
-use why_text::Line;
 
 fn print_into<W: Write>(input: &[u8], text: &mut [u8], writer: &mut W) {
-    match whying::why(input, text) {
-        Line::Written(count) => {
-            let _ = writer.write_all(&text[..count]);
-        }
-        Line::Refused(_) => {}
+    if let Ok(count) = whying::why(input, text) {
+        let _ = writer.write_all(&text[..count]);
     }
 }
 

@@ -1,7 +1,7 @@
 -- The lines, from the pieces that they are written in, and what a written line answers. Assumes nothing.
-use Prim.Native.Nat.{ℕ, ◌+◌, ◌<◌, ◌≤◌}
+use Prim.Native.Nat.{ℕ, ◌<◌, ◌≤◌}
 use Prim.Native.String.{String}
-use mathlib.Core.Path.{◌≡◌, refl, sym, ◌∙◌, ap}
+use mathlib.Core.Path.{◌≡◌, refl, ap}
 use mathlib.Core.List.{List, [], ◌∷◌, ◌++◌, append_assoc}
 use borrow.Author.Tests.{lt-ltb, le-ltb}
 use lib.ListN.{length}
@@ -17,7 +17,7 @@ use Rattle.finding.specs.Saying.{waiting, refusing, breaking}
 use Rattle.why_text.specs.Text.{wanted_text, line_of, line_room}
 use Rattle.why_text.specs.Stages.{place_text}
 use Rattle.why_text.specs.Statement.{Writes}
-use Rattle.why_text.specs.declared.Line.TheVariants.{Written, Refused}
+use Rattle.std.specs.declared.result.Result.TheVariants.{Ok, Err}
 
 pub place_text_lem : (name : List ℕ) (offset value : ℕ) (wanted : Wanted)
     → (((name ++ 32 ∷ []) ++ (decimal offset ++ 32 ∷ [])) ++ (decimal value ++ 32 ∷ [])) ++ line (wanted_text wanted ∷ [])
@@ -43,10 +43,10 @@ not_plain_text name offset value wanted = refl
 -- what a text over the front of a buffer answers
 
 module _ (ws before : List ℕ) where
-  pub no_room : length before < line_room → Writes ws before (Refused (record { room = Output; needed = line_room; given = length before })) before
+  pub no_room : length before < line_room → Writes ws before (Err (record { room = Output; needed = line_room; given = length before })) before
   no_room short = let so = lt-ltb (length before) line_room short in (rw so, rw so)
 
-  pub has_room : line_room ≤ length before → {end : ℕ} {after : List ℕ} → Wrote ws 0 before end after → Writes ws before (Written end) after
+  pub has_room : line_room ≤ length before → {end : ℕ} {after : List ℕ} → Wrote ws 0 before end after → Writes ws before (Ok end) after
   has_room fits wrote =
       let front = wrote_front wrote in
       let so = le-ltb (length before) line_room fits in

@@ -10,20 +10,19 @@ use Rattle.words.proofs.PaperLaws.{no_room_of, no_room_back}
 use Rattle.finding.specs.Meaning.{meaning}
 use Rattle.finding.specs.declared.Finding.{Finding}
 use Rattle.why_text.specs.Text.{line_of}
-use Rattle.why_text.specs.Statement.{paper, written, Writes, WritesLine}
-use Rattle.why_text.specs.declared.Line.{Line}
-use Rattle.why_text.specs.declared.Line.TheVariants.{Written, Refused}
+use Rattle.why_text.specs.Statement.{Line, paper, written, Writes, WritesLine}
+use Rattle.std.specs.declared.result.Result.TheVariants.{Ok, Err}
 
--- back from an answer to the enum's case
+-- back from an answer to the answer
 back : Answer → Line
-back (accepted count fields) = Written count
-back more = Written 0
-back (refused number values consumed) = Refused (no_room_of values)
+back (accepted count fields) = Ok count
+back more = Ok 0
+back (refused number values consumed) = Err (no_room_of values)
 
 paper_back_lem : (r : Line) → back (paper r) ≡ r
 unfolding back
-paper_back_lem (Written count) = refl
-paper_back_lem (Refused short) = ap Refused (no_room_back short)
+paper_back_lem (Ok count) = refl
+paper_back_lem (Err short) = ap Err (no_room_back short)
 
 -- of any text
 pub writes_unique : (ws before : List ℕ) → OneResult (λ (x : Line × List ℕ). Writes ws before x.0 x.1)

@@ -12,24 +12,17 @@ mod text;
 // The room that takes every line.
 pub const LINE_ROOM: usize = 128;
 
-// How many bytes of text were written, or 17.
-#[derive(Clone, Copy)]
-pub enum Line {
-    Written(usize),
-    Refused(NoRoom),
-}
-
-// The line of a finding, over the front of `out`.
-pub fn write(finding: Finding, out: &mut [u8]) -> Line
+// Writes the line of a finding over the front of `out`, and answers how many bytes it has, or 17.
+pub fn write(finding: Finding, out: &mut [u8]) -> Result<usize, NoRoom>
     ensures writes_line { WritesLine finding out.old result out.new }
     ensures fits { Fits out.old result }
 {
     if out.len() < LINE_ROOM {
-        return Line::Refused(NoRoom {
+        return Err(NoRoom {
             room: Room::Output,
             needed: LINE_ROOM as u64,
             given: out.len() as u64,
         });
     }
-    Line::Written(put_finding(out, finding))
+    Ok(put_finding(out, finding))
 }

@@ -1,5 +1,5 @@
 -- Whether an input begins with a word, and the output by its first line. Assumes nothing.
-use Prim.Native.Nat.{ℕ, zero, suc, ◌+◌, ◌-◌, ◌<◌, ◌≤◌}
+use Prim.Native.Nat.{ℕ, ◌+◌, ◌<◌, ◌≤◌}
 use mathlib.Core.Path.{◌≡◌, refl, sym, ◌∙◌, ap, subst}
 use mathlib.Core.Bool.{Bool, true, false, ◌&&◌}
 use mathlib.Core.List.{List, [], ◌∷◌}
@@ -17,12 +17,11 @@ use Rattle.packet.specs.declared.Mode.TheVariants.{Archive}
 use Rattle.listing.specs.Output.{most_bytes, byte_limit, part_ceiling}
 use Rattle.finding.specs.declared.Finding.{Finding}
 use Rattle.finding.specs.Meaning.{meaning}
-use Rattle.why_packet.specs.Checks.{packet_checks, ExplainsPacket}
-use Rattle.why_rowset.specs.Checks.{rowset_checks, ExplainsRowset}
+use Rattle.why_packet.specs.Checks.{ExplainsPacket}
+use Rattle.why_rowset.specs.Checks.{ExplainsRowset}
 use Rattle.why_text.specs.Text.{line_of, line_room}
-use Rattle.why_text.specs.Statement.{Writes, WritesLine}
-use Rattle.why_text.specs.declared.Line.{Line}
-use Rattle.why_text.specs.declared.Line.TheVariants.{Written, Refused}
+use Rattle.why_text.specs.Statement.{Line, Writes, WritesLine}
+use Rattle.std.specs.declared.result.Result.TheVariants.{Ok}
 use Rattle.whying.specs.Output.{first_line, starts, output}
 use Rattle.whying.specs.Statement.{Whys}
 
@@ -93,7 +92,7 @@ module _ (s before : List ℕ) (r : Line) (after : List ℕ) where
       is_neither none = as_output s (text "bad input\n") before r after (rw (le-ltb (first_line + most_bytes) (length s) few, ← no, ← none))
 
 -- `bad input` over the front of a buffer that has the room
-pub bad_written : (before after : List ℕ) → line_room ≤ length before → after ≡ fitted (text "bad input\n") before → Writes (text "bad input\n") before (Written 10) after
+pub bad_written : (before after : List ℕ) → line_room ≤ length before → after ≡ fitted (text "bad input\n") before → Writes (text "bad input\n") before (Ok 10) after
 bad_written before after fits e =
     let so = le-ltb (length before) line_room fits in
     (rw so, rw so (e ∙ fitted_fits (text "bad input\n") before (omega arith)))

@@ -2,7 +2,7 @@
 use Prim.Native.Nat.{ℕ}
 use mathlib.Core.List.{List}
 use Rattle.words.specs.Statement.{OneResult}
-use Rattle.why_text.specs.declared.Line.{Line}
+use Rattle.why_text.specs.Statement.{Line}
 use Rattle.why_text.proofs.Unique.{writes_unique}
 use Rattle.whying.specs.Output.{output}
 use Rattle.whying.specs.Statement.{Whys}

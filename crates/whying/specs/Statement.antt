@@ -1,8 +1,7 @@
 -- What `why` promises: the whole output over the front of the buffer, or 17 where that has not the room for every line.
 -- Assumes nothing.
 use Rattle.std.specs.Prelude.{ℕ, List}
-use Rattle.why_text.specs.Statement.{Writes}
-use Rattle.why_text.specs.declared.Line.{Line}
+use Rattle.why_text.specs.Statement.{Line, Writes}
 use Rattle.whying.specs.Output.{output}
 
 abbrev pub Whys : List ℕ → List ℕ → Line → List ℕ → Type 0

@@ -11,7 +11,7 @@ ghost use Rattle.whying.specs.Output.{starts};
 ghost use Rattle.whying.specs.Statement.{Whys};
 
 use packet::Mode;
-use why_text::{LINE_ROOM, Line, write};
+use why_text::{LINE_ROOM, write};
 use words::outcome::{NoRoom, Room};
 
 // The most bytes behind the first line.
@@ -32,22 +32,20 @@ fn begins(input: &[u8], word: &[u8]) -> bool
     if input.len() < word.len() {
         return false;
     }
-    let mut index = 0;
-    while index < word.len() {
+    for index in 0..word.len() {
         if input[index] != word[index] {
             return false;
         }
-        index += 1;
     }
     true
 }
 
-fn bad_input(out: &mut [u8]) -> Line
+fn bad_input(out: &mut [u8]) -> Result<usize, NoRoom>
     ensures writes { Writes (text "bad input\n") out.old result out.new }
     ensures fits { Fits out.old result }
 {
     if out.len() < LINE_ROOM {
-        return Line::Refused(NoRoom {
+        return Err(NoRoom {
             room: Room::Output,
             needed: LINE_ROOM as u64,
             given: out.len() as u64,
@@ -55,11 +53,11 @@ fn bad_input(out: &mut [u8]) -> Line
     }
     let line: &[u8] = b"bad input\n";
     word_write::write_bytes(out, line);
-    Line::Written(line.len())
+    Ok(line.len())
 }
 
-// The whole output of `why` for an input, over the front of `out`.
-pub fn why(input: &[u8], out: &mut [u8]) -> Line
+// Writes the whole output of `why` for an input over the front of `out`, and answers how many bytes it has.
+pub fn why(input: &[u8], out: &mut [u8]) -> Result<usize, NoRoom>
     ensures whys { Whys input.now out.old result out.new }
     ensures fits { Fits out.old result }
 {

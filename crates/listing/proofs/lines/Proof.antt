@@ -1,6 +1,6 @@
 -- `lines` meets its contract. The invariant: the lines written so far, and those still to come, are the input's. Assumes nothing.
-use mathlib.Core.Path.{◌≡◌, refl, sym, ◌∙◌}
-use Prim.Native.Nat.{◌-◌, ◌*◌, ◌≤◌}
+use mathlib.Core.Path.{◌≡◌, refl, ◌∙◌}
+use Prim.Native.Nat.{◌-◌}
 use native.Mathlib.Omega.{arith}
 use lib.ListN.{length}
 use Rattle.listing.proofs.WalkLaws.{Listing, listing_begins, listing_goes_on, listing_ends}

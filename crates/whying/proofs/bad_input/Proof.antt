@@ -1,5 +1,4 @@
 -- `bad_input` meets its contract: no room, or the line. Assumes nothing.
-use mathlib.Core.Path.{refl}
 use native.Mathlib.Omega.{arith}
 use Rattle.words.specs.Text.{text}
 use Rattle.why_text.proofs.LineLaws.{no_room}

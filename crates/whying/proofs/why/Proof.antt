@@ -1,5 +1,5 @@
 -- `why` meets its contract: too long, a packet, a rowset, or neither. Assumes nothing.
-use mathlib.Core.Path.{refl, sym, ◌∙◌}
+use mathlib.Core.Path.{sym, ◌∙◌}
 use native.Mathlib.Omega.{arith}
 use Rattle.words.specs.Text.{text}
 use Rattle.whying.proofs.OutputLaws.{starts_long, too_long, is_packet, is_rowset, is_neither}

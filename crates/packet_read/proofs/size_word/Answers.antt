@@ -1,0 +1,6 @@
+-- `size_word` meets its contract. Assumes nothing.
+use Rattle.words.proofs.WordLaws.{word_lent}
+use Rattle.packet_read.proofs.size_word.Goals as goal
+
+pub returns : goal.returns
+returns c = word_lent 4 _ _ c.read_u32.ensures

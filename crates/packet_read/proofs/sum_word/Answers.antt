@@ -1,0 +1,6 @@
+-- `sum_word` meets its contract. Assumes nothing.
+use Rattle.words.proofs.WordLaws.{word_lent}
+use Rattle.packet_read.proofs.sum_word.Goals as goal
+
+pub returns : goal.returns
+returns c = word_lent 8 _ _ c.read_u64.ensures
