@@ -67,8 +67,7 @@ pub fn parse(text: &[u8]) -> Result<Guid, BadGuid>
     let mut w3: u32 = 0;
     let mut left: u32 = 3;
     let mut start: usize = 0;
-    let mut at: usize = 0;
-    while at < text.len() {
+    for at in 0..text.len() {
         let byte = text[at];
         let count = at - start;
         if byte == b'-' {
@@ -84,7 +83,6 @@ pub fn parse(text: &[u8]) -> Result<Guid, BadGuid>
             w0 = 0;
             left -= 1;
             start = at + 1;
-            at = start;
             continue;
         }
         if count < 7 {
@@ -93,7 +91,6 @@ pub fn parse(text: &[u8]) -> Result<Guid, BadGuid>
                 return bad(at, Reason::NotHex);
             }
             w0 = w0 * 16 + value;
-            at += 1;
             continue;
         }
         if 7 < count {
@@ -104,13 +101,12 @@ pub fn parse(text: &[u8]) -> Result<Guid, BadGuid>
             return bad(at, Reason::NotHex);
         }
         w0 = w0 * 16 + last;
-        at += 1;
     }
-    if at == start {
-        return bad(at, Reason::Empty);
+    if text.len() == start {
+        return bad(text.len(), Reason::Empty);
     }
     if 0 < left {
-        return bad(at, Reason::FieldCount);
+        return bad(text.len(), Reason::FieldCount);
     }
     Ok(Guid { w0, w1, w2, w3 })
 }

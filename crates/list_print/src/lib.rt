@@ -2,7 +2,6 @@
 // passed over: whoever read the listing is gone.
 #![tactic(auto)]
 
-use input::Input;
 use std::io::{Read, Write};
 
 fn print_into<W: Write>(input: &[u8], text: &mut [u8], writer: &mut W) {
@@ -21,11 +20,9 @@ fn print<W: Write>(input: &[u8], writer: &mut W) {
 pub fn print_from<R: Read, W: Write>(reader: &mut R, writer: &mut W) -> bool {
     // One byte more than is listed, so that a longer input shows.
     let mut buffer = [0u8; 65_537];
-    match input::read_whole(reader, &mut buffer) {
-        Input::Bytes(count) => {
-            print(&buffer[..count], writer);
-            true
-        }
-        Input::Failed => false,
-    }
+    let Ok(count) = input::read_whole(reader, &mut buffer) else {
+        return false;
+    };
+    print(&buffer[..count], writer);
+    true
 }

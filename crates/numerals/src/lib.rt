@@ -40,6 +40,7 @@ fn write_digits<const BASE: u64, const MOST: usize>(
     if out.len() < count {
         return count;
     }
+    // Counted down by hand: the last digit comes first, and each needs what the one behind it left.
     let mut left = count;
     let mut rest = number;
     while 0 < left {
@@ -57,7 +58,8 @@ pub fn write_hex(out: &mut [u8], word: u32) -> usize
     write_digits::<16, 8>(out, word as u64, hex_size(word))
 }
 
-// How many decimal digits a number has.
+// How many decimal digits a number has. It divides, where `hex_size` counts bits: one function for both would divide
+// for hex too.
 pub fn decimal_size(number: u64) -> usize
     ensures { Sizes (decimal number) result }
 {

@@ -8,7 +8,7 @@ use Prim.Native.Nat.{ℕ, zero, suc, ◌+◌, ◌≤◌}
 use native.Mathlib.Omega.{arith}
 use borrow.Author.Tests.{ne_eqb}
 use lib.ListN.{length, get_or}
-use Rattle.yson_token.specs.Token.{end, none, scalar, token_end}
+use Rattle.yson_token.specs.Token.{end, scalar, token_end}
 use Rattle.yson_token.specs.Token.{Bracket, square, curly, angle, closing}
 use Rattle.yson_grammar.specs.Grammar.{Token, Node, plain, attributed, Object, single, list, map, Items, more, last, Item, listed, mapped, named, Pair, pair, Yson}
 use Rattle.yson_grammar.specs.Grammar as Grammar
