@@ -8,10 +8,10 @@ use native.Mathlib.Numerals.{add-one}
 use native.Mathlib.Omega.{arith}
 use lib.ListN.{length, set, length-set}
 use lib.Seq.{sets, length-sets}
-use Rattle.wire.specs.Layout.{null_type, scalar, blob, padded, values_in, flag, bits_of, type_at, length_at, scalar_at, count_at, next_value, next_values, next_row, next_rows, value_count, entry, entries, row_words, value_words, fourth, fifth, entry_words}
+use Rattle.wire.specs.Layout.{scalar, blob, padded, values_in, flag, bits_of, type_at, length_at, scalar_at, count_at, next_value, next_values, next_row, next_rows, value_count, entry, entries, row_words, value_words, fourth, fifth, entry_words}
 use Rattle.wire_value.specs.ValueOf.{header_at}
 use Rattle.wire_value.specs.declared.value.Header.{Header}
-use Rattle.wire.proofs.TypeLaws.{scalar_yes, scalar_low, blob_yes, blob_low, payload_none, payload_scalar, payload_blob}
+use Rattle.wire.proofs.TypeLaws.{scalar_yes, blob_yes, blob_low, payload_none, payload_scalar, payload_blob}
 use Rattle.wire_value.proofs.HeaderLaws.{header_id, header_kind, header_aggregate, header_length}
 use Rattle.wire.proofs.LayoutLaws.{next_values_more, entries_more, next_rows_more, value_count_more, row_words_more, value_words_more, next_values_far, next_row_far, next_rows_far, length_entries, sets_append, sets_entry}
 
@@ -28,11 +28,6 @@ module _ (s : List ℕ) (at : ℕ) where
   module _ (header : Header) (is : header ≡ header_at s at) where
     kind_is : header.kind ≡ type_at s at
     kind_is = header_kind s at header is
-
-    pub null_holds : header.kind ≡ null_type → Filled s at 0 0 (at + 8)
-    null_holds h =
-        let type : type_at s at ≡ null_type = sym kind_is ∙ h in
-        none_holds (scalar_low (type_at s at) (omega arith)) (blob_low (type_at s at) (omega arith))
 
     pub unknown_holds : scalar header.kind ≡ false → blob header.kind ≡ false → Filled s at 0 0 (at + 8)
     unknown_holds n b = none_holds (rw kind_is at n) (rw kind_is at b)

@@ -13,7 +13,7 @@ use Rattle.words.specs.Answer.{accepted}
 use Rattle.words.specs.Decide.{pick}
 use Rattle.words.specs.Word.{word}
 use Rattle.words.proofs.WordLaws.{word_take, word_drop}
-use Rattle.wire.specs.Layout.{null_type, boolean, max_size, scalar, blob, padding, padded, values_in, type_at, aggregate_at, length_at, scalar_at, count_at, next_value, next_values, next_row, next_rows}
+use Rattle.wire.specs.Layout.{boolean, max_size, scalar, blob, padding, padded, values_in, type_at, aggregate_at, length_at, scalar_at, count_at, next_value, next_values, next_row, next_rows}
 use Rattle.wire.specs.Paper.{paper}
 use Rattle.wire_value.specs.ValueOf.{header_at}
 use Rattle.wire.specs.declared.error.WireError.{WireError}
@@ -89,11 +89,6 @@ module _ (s : List ℕ) (at : ℕ) (header : Header) (is : header ≡ header_at 
     length_plain : blob (type_at s at) ≡ false → (type_at s at ≡ boolean → ⊥) → eqb header.length 0 ≡ plain_value s at
     unfolding plain_value
     length_plain b other = rw (flag_is, b, ne_eqb (type_at s at) boolean other, header_length s at header is) (alone (eqb (length_at s at) 0))
-
-    pub value_null : header.kind ≡ null_type → eqb header.length 0 ≡ plain_value s at
-    value_null h =
-        let type : type_at s at ≡ null_type = sym kind_is ∙ h in
-        length_plain (blob_low (type_at s at) (omega arith)) (λ e. omega arith)
 
     pub value_unknown : scalar header.kind ≡ false → blob header.kind ≡ false → eqb header.length 0 ≡ plain_value s at
     value_unknown n b =

@@ -1,11 +1,9 @@
 -- `copy_all` meets its contract. The invariant: the bytes of the entries before i are copied. Assumes nothing.
-use mathlib.Core.Path.{◌≡◌, sym, ap}
-use Prim.Native.Nat.{ℕ, ◌-◌, ◌/◌}
+use mathlib.Core.Path.{sym, ap}
+use Prim.Native.Nat.{ℕ, ◌/◌}
 use native.Mathlib.Omega.{arith}
-use Rattle.wire_check.specs.Writing.{entries_in}
-use Rattle.pack_links.specs.Statement.{plain}
 use Rattle.pack_links.proofs.MoveLaws.{plain_long}
-use Rattle.pack_links.proofs.CopyLaws.{Copying, copy_begin, copy_end, copy_long, copy_place, copy_inside, copy_asks, next_above, copy_go}
+use Rattle.pack_links.proofs.CopyLaws.{copy_begin, copy_end, copy_long, copy_place, copy_inside, copy_asks, next_above, copy_go}
 use Rattle.wire.specs.Layout.{entry_words}
 use Rattle.pack.proofs.copy_all.Goals as goal
 

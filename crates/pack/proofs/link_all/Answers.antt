@@ -1,10 +1,8 @@
 -- `link_all` meets its contract. The invariant: the entries before i are linked, and the sum is theirs.
 -- Assumes nothing.
-use mathlib.Core.Path.{◌≡◌, refl, sym, ◌∙◌, ap}
-use Prim.Native.Nat.{◌-◌}
+use mathlib.Core.Path.{refl, ◌∙◌, ap}
 use native.Mathlib.Omega.{arith}
-use Rattle.wire_check.specs.Writing.{entries_in}
-use Rattle.pack_links.proofs.WalkLaws.{SoFar, begin, end, look_asks, skip_go, used_asks, used_go, new_asks, new_go}
+use Rattle.pack_links.proofs.WalkLaws.{begin, end, look_asks, skip_go, used_asks, used_go, new_asks, new_go}
 use Rattle.std.specs.declared.option.Option.TheVariants.{Some}
 use Rattle.pack.proofs.link_all.Goals as goal
 use Rattle.pack.proofs.link_all.Goals.{in-None, in-Some-Known, in-Some-Free}

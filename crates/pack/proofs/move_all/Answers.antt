@@ -1,10 +1,7 @@
 -- `move_all` meets its contract. The invariant: the entries before i have their new words. Assumes nothing.
-use mathlib.Core.Path.{◌≡◌, sym, ap}
-use Prim.Native.Nat.{ℕ, ◌-◌, ◌/◌}
-use native.Mathlib.Omega.{arith}
-use Rattle.wire_check.specs.Writing.{entries_in}
-use Rattle.pack_links.specs.Statement.{plain}
-use Rattle.pack_links.proofs.MoveLaws.{plain_long, Moving, move_begin, move_long, move_inside, next_asks, move_go, move_end}
+use mathlib.Core.Path.{sym, ap}
+use Prim.Native.Nat.{ℕ, ◌/◌}
+use Rattle.pack_links.proofs.MoveLaws.{plain_long, move_begin, move_long, move_inside, next_asks, move_go, move_end}
 use Rattle.wire.specs.Layout.{entry_words}
 use Rattle.pack.proofs.move_all.Goals as goal
 

@@ -1,9 +1,7 @@
 -- `copy_all` meets its contract. The invariant: the bytes of the entries before i are copied. Assumes nothing.
-use mathlib.Core.Path.{◌≡◌, refl}
-use Prim.Native.Nat.{◌-◌}
+use mathlib.Core.Path.{refl}
 use native.Mathlib.Omega.{arith}
-use Rattle.wire_check.specs.Writing.{entries_in}
-use Rattle.pack_plain.proofs.PlainLaws.{Copying, copy_begin, copy_end, copy_long, copy_place, copy_next, copy_go}
+use Rattle.pack_plain.proofs.PlainLaws.{copy_begin, copy_end, copy_long, copy_place, copy_next, copy_go}
 use Rattle.pack_plain.proofs.copy_all.Goals as goal
 
 pub loop-i-init : goal.loop-i-init

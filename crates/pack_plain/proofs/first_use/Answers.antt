@@ -1,9 +1,8 @@
 -- `first_use` meets its contract. The invariant: the search from j on finds what the whole finds.
 -- Assumes nothing.
 use mathlib.Core.Path.{◌≡◌, ◌∙◌}
-use Prim.Native.Nat.{◌≤◌, ◌-◌}
 use native.Mathlib.Omega.{arith}
-use Rattle.pack_plain.proofs.PlainLaws.{Seeks, seek_begin, seek_hit, seek_miss, seek_end}
+use Rattle.pack_plain.proofs.PlainLaws.{seek_begin, seek_hit, seek_miss, seek_end}
 use Rattle.pack_plain.proofs.first_use.Goals as goal
 
 pub loop-j-init : goal.loop-j-init

@@ -1,7 +1,7 @@
 -- `move_all` meets its contract. The invariant: the entries from i on have their new words. Assumes nothing.
 use mathlib.Core.Path.{refl}
 use native.Mathlib.Omega.{arith}
-use Rattle.pack_plain.proofs.PlainLaws.{Placed, place_begin, place_end, place_inside, place_fits, place_go}
+use Rattle.pack_plain.proofs.PlainLaws.{place_begin, place_end, place_inside, place_fits, place_go}
 use Rattle.pack_plain.proofs.move_all.Goals as goal
 
 pub loop-i-init : goal.loop-i-init

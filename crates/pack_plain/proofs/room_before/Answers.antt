@@ -1,9 +1,5 @@
 -- `room_before` meets its contract. The invariant: the sum is that of the first i entries. Assumes nothing.
-use mathlib.Core.Path.{◌≡◌}
-use Prim.Native.Nat.{◌≤◌, ◌-◌}
 use native.Mathlib.Omega.{arith}
-use Rattle.pack_pairs.specs.Packing.{capped}
-use Rattle.pack_pairs.specs.Stages.{room}
 use Rattle.pack_plain.proofs.PlainLaws.{sum_begin, sum_more, sum_end}
 use Rattle.pack_plain.proofs.room_before.Goals as goal
 
