@@ -10,7 +10,7 @@ use text_walk::error::TextError;
 use text_walk::walk::Walked;
 use words::outcome::{Outcome, taken};
 
-// What `read_text` answered, in words.
+// What `read_text` answered, in words. A function and no `From`, for `Result` and `Outcome` are types of other crates.
 fn walked_outcome(answer: Result<Walked, TextError>) -> Outcome
     ensures { Tells (walked_paper answer) result }
 {
