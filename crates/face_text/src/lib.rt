@@ -10,18 +10,19 @@ use text_walk::error::TextError;
 use text_walk::walk::Walked;
 use words::outcome::{Outcome, taken};
 
-// What `read_text` answered, in words.
+// What `read_text` answered, in words. A function and no `From`, for `Result` and `Outcome` are types of other crates.
 fn walked_outcome(answer: Result<Walked, TextError>) -> Outcome
     ensures { Tells (walked_paper answer) result }
 {
     match answer {
-        Ok(
-            Walked {
-                rows,
-                values,
-                bytes,
-            },
-        ) => taken(bytes as u64, rows as u64, values as u64, 0),
+        Ok(walked) => {
+            taken(
+                walked.bytes as u64,
+                walked.rows as u64,
+                walked.values as u64,
+                0,
+            )
+        }
         Err(error) => Outcome::from(error),
     }
 }

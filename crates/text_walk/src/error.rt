@@ -14,7 +14,7 @@ pub enum TextError {
     Limit(WireError),
 }
 
-// The place of 19, for the pieces that meet no limit: two words, where a `TextError` has five.
+// The place of 19, for the pieces that meet no limit: one word, where a `TextError` has several.
 #[derive(Clone, Copy)]
 pub(crate) struct BadPlace {
     pub(crate) place: usize,
