@@ -38,13 +38,5 @@ pub extern "C" fn cablefinch_encode(
     let guid = Guid::from_bytes(id, 0);
     let flags = PacketFlags(flags);
     let mode = mode_of(mode);
-    packet_check::outcome(packet_write::encode(
-        mode,
-        packet_type,
-        flags,
-        guid,
-        area,
-        parts,
-        out,
-    ))
+    packet_check::outcome(packet_write::encode(mode, packet_type, flags, guid, area, parts, out))
 }

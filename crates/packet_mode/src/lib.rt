@@ -5,7 +5,7 @@ ghost use Rattle.packet_mode.specs.Statement.{GivesMode};
 
 use packet::Mode;
 
-// The mode of a number.
+// The mode of a number. It is no `From`: the type is `packet`'s, and a mode is a number for the C interface alone.
 pub fn mode_of(number: u64) -> Mode
     ensures { GivesMode number result }
 {

@@ -7,7 +7,7 @@ use lib.Bits.{bit_xor}
 use lib.Dec.{lit<}
 use lib.ListN.{length, replicate}
 use Rattle.words.specs.Word.{Bytes}
-use Rattle.crc64.specs.Polynomial.{step, steps, fold_byte, fold, checksum}
+use Rattle.crc64.specs.Polynomial.{step, steps, fold_byte, fold}
 use Rattle.crc64.specs.Damage.{Damaged, xor_bytes}
 use Rattle.crc64.specs.Statement.{ChecksumIs}
 use Rattle.crc64.specs.Table.{swapped}

@@ -1,4 +1,5 @@
 -- What `encode` says it wrote is a valid packet, and is read back. Assumes nothing.
+use Rattle.std.specs.declared.result.Result.TheVariants.{Ok}
 use mathlib.Core.Path.{◌≡◌, refl, sym, ◌∙◌, ap}
 use mathlib.Core.Bool.{Bool, true, false}
 use mathlib.Core.List.{List, [], ◌∷◌, ◌++◌}
@@ -17,7 +18,6 @@ use Rattle.packet.proofs.Back.{type_known}
 use Rattle.packet.specs.declared.PacketFlags.{PacketFlags}
 use Rattle.guid.specs.declared.Guid.{Guid}
 use Rattle.guid.specs.Guid.{Fitting}
-use Rattle.packet_write.specs.declared.Encoded.TheVariants.{Written}
 use Rattle.packet_write.specs.Statement.{Encodes}
 use Rattle.packet.specs.Layout.{largest_part}
 use Rattle.packet.specs.Entries.{room}
@@ -66,7 +66,7 @@ module _ (area table : List ℕ) where
 
 -- what `encode` wrote is a valid packet
 pub given_valid : (mode : Mode) (type : PacketType) (flags : PacketFlags) (id : Guid) (area table out : List ℕ) (n : ℕ) (after : List ℕ)
-    → flags.0 < 2 ^ 16 → Fitting id → Encodes mode type flags id area table out (Written n) after → Valid (given type flags id area table)
+    → flags.0 < 2 ^ 16 → Fitting id → Encodes mode type flags id area table out (Ok n) after → Valid (given type flags id area table)
 given_valid mode type flags id area table out n after flags_fit id_fits told =
     let good : Passes area table = (checked area table mode (type_number type) (length out) n told.answer).0 in
     let counted : length (parts_of area table) ≡ room table = length_parts table area 0 (room table) in
@@ -79,7 +79,7 @@ given_valid mode type flags id area table out n after flags_fit id_fits told =
     }
 
 module _ (mode : Mode) (type : PacketType) (flags : PacketFlags) (id : Guid) (area table out : List ℕ) (n : ℕ) (after : List ℕ)
-    (told : Encodes mode type flags id area table out (Written n) after) where
+    (told : Encodes mode type flags id area table out (Ok n) after) where
   pub written_size : wire_size (given type flags id area table) ≡ n
   written_size = size_is area table mode (type_number type) (length out) n told.answer
 

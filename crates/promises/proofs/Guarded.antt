@@ -1,6 +1,8 @@
 -- The third word of a part's entry is the stored checksum, and the writer does not read it. Assumes nothing.
+use Rattle.std.specs.declared.option.Option.TheVariants.{Some}
+use Rattle.std.specs.declared.result.Result.TheVariants.{Ok}
 use mathlib.Core.Path.{◌≡◌, refl, ◌∙◌, ap, ap₂}
-use mathlib.Core.Bool.{true, not, or-true}
+use mathlib.Core.Bool.{true, or-true}
 use mathlib.Core.List.{List, ◌∷◌, ◌++◌}
 use Prim.Native.Nat.{ℕ, zero, suc, ◌+◌, ◌/◌}
 use native.Mathlib.Omega.{arith}
@@ -14,7 +16,6 @@ use Rattle.packet.specs.Paper.{type_number}
 use Rattle.packet.specs.Wire.{Part, null, bytes, parts_from, parts_of}
 use Rattle.packet.specs.declared.Mode.{Mode}
 use Rattle.packet.specs.declared.Packet.{Packet}
-use Rattle.packet_answer.specs.declared.Decoded.TheVariants.{Read}
 use Rattle.packet_read.specs.Statement.{Decodes}
 use Rattle.packet_check.specs.Checks.{table_lines, limit_lines, checks, first_outside, first_too_large, validating, sizing}
 use Rattle.packet_write.specs.Writing.{writing}
@@ -33,7 +34,7 @@ written_is_guarded mode type flags id area table out n after tail limits lent r 
     let p : Packet = record { packet_type = type; flags = flags; id = id; parts = length (parts_of area table) } in
     let ok : Valid m = given_valid mode type flags id area table out n after flags_fit id_fits told in
     let same = (written_is_lent mode type flags id area table out n after tail limits lent r filled flags_fit id_fits told roomy held read).0 in
-    let read-so : Decodes s limits lent (Read p n) filled = rw same at read in
+    let read-so : Decodes s limits lent (Ok (Some record { packet = p; consumed = n; })) filled = rw same at read in
     let as-wire : s ≡ wire m ++ tail = ap (λ (l : List ℕ). l ++ tail) (written_bytes mode type flags id area table out n after told) in
     let counted : count s ≡ length (parts_of area table) = ap count as-wire ∙ is_count m tail ok in
     let there : has_variable_header (type_number type) (length (parts_of area table)) ≡ true =

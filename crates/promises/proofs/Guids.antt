@@ -4,16 +4,17 @@ use mathlib.Core.List.{List, [], ◌∷◌, ◌++◌}
 use mathlib.Core.Logic.{◌⊎◌, inl, inr}
 use Prim.Native.Nat.{ℕ, suc, ◌+◌, ◌^◌, ◌<◌, ◌≤◌}
 use native.Mathlib.Omega.{arith}
-use lib.ListN.{length, get_or, take, length-append, get_or-append}
+use lib.ListN.{length, take, length-append, get_or-append}
 use lib.Seq.{length-take-le, get_or-take}
 use Rattle.words.specs.Text.{text, digit, spelled, digit_of}
-use Rattle.places.specs.Place.{Mendable, Place}
+use Rattle.places.specs.Place.{Mendable}
 use Rattle.places.specs.Machine.{Ending, read, run}
 use Rattle.places.proofs.PlaceLaws.{place_inside}
 use Rattle.places.proofs.MachineLaws.{read_not_stopped}
 use Rattle.guid.specs.declared.Guid.{Guid}
-use Rattle.guid_text.specs.declared.Parsed.{Parsed}
-use Rattle.guid_text.specs.declared.Parsed.TheVariants.{Read, Bad}
+use Rattle.guid_text.specs.declared.BadGuid.{BadGuid}
+use Rattle.std.specs.declared.result.Result.{Result}
+use Rattle.std.specs.declared.result.Result.TheVariants.{Ok, Err}
 use Rattle.guid_text.specs.declared.Reason.{Reason}
 use Rattle.guid_text.specs.declared.Reason.TheVariants.{Empty, TooLong, NotHex, FieldCount}
 use Rattle.guid.specs.Guid.{guid_of, Fitting}
@@ -35,8 +36,8 @@ use Rattle.promises.specs.Guids.{ParseAcceptsExactly, AcceptedBytes, ParsePlace,
 
 pub parse_accepts_exactly : ParseAcceptsExactly
 parse_accepts_exactly s r g told = (
-  (λ e. subst (λ (x : Parsed). Parses s x) e told),
-  (λ text. parse_unique s r (Read g) told text),
+  (λ e. subst (λ (x : Result Guid BadGuid). Parses s x) e told),
+  (λ text. parse_unique s r (Ok g) told text),
 )
 
 pub accepted_bytes : AcceptedBytes
@@ -90,7 +91,7 @@ why_cause s p FieldCount (some, inr (h, less)) = too_few h some less
 
 pub parse_reason : ParseReason
 parse_reason s p reason other told = (
-  (λ e. subst (Why s p) e (cause_why s p reason (walk_cause s p reason (parses_run s (Bad p reason) told)))),
+  (λ e. subst (Why s p) e (cause_why s p reason (walk_cause s p reason (parses_run s (Err record { position = p; reason = reason; }) told)))),
   (λ why. decides_one (reasons s p) reason other told.1 (cause_decides s p other (why_cause s p other why))),
 )
 
@@ -100,7 +101,7 @@ without_plus_as_before s r g none told =
     ((λ e. now_before s g (exactly.0 e)), (λ text. exactly.1 (before_now s g none text)))
 
 pub plus_refused : PlusRefused
-plus_refused s g p reason text told = refused_at_plus s g p reason text (parses_run s (Bad p reason) told)
+plus_refused s g p reason text told = refused_at_plus s g p reason text (parses_run s (Err record { position = p; reason = reason; }) told)
 
 -- the field of one digit
 one_digit : (b : ℕ) → digit_of b ≤ 15 → IsField (b ∷ []) (value 0 (b ∷ []))
@@ -124,21 +125,21 @@ plus_matters = (text "+1-2-3-4", guid_of 4 3 2 1, before, refuses)
           is0 = bare (one_digit 52 (omega arith));
         }
 
-    refuses : (r : Parsed) → Parses (text "+1-2-3-4") r → (r ≡ Read (guid_of 4 3 2 1) → ⊥)
-    refuses r told e = read_not_stopped (guid_of 4 3 2 1) 0 NotHex (sym (parses_run _ (Read (guid_of 4 3 2 1)) (subst (λ (x : Parsed). Parses (text "+1-2-3-4") x) e told)))
+    refuses : (r : Result Guid BadGuid) → Parses (text "+1-2-3-4") r → (r ≡ Ok (guid_of 4 3 2 1) → ⊥)
+    refuses r told e = read_not_stopped (guid_of 4 3 2 1) 0 NotHex (sym (parses_run _ (Ok (guid_of 4 3 2 1)) (subst (λ (x : Result Guid BadGuid). Parses (text "+1-2-3-4") x) e told)))
 
 pub print_then_parse : PrintThenParse
 print_then_parse g before n after r fits printed told =
     let text : take n after ≡ text_of g = printed_text g before n after printed in
-    parse_unique (take n after) r (Read g) told (subst (λ (s : List ℕ). IsText s g) (sym text) (printed_is_text g fits))
+    parse_unique (take n after) r (Ok g) told (subst (λ (s : List ℕ). IsText s g) (sym text) (printed_is_text g fits))
 
 pub fitting_matters : FittingMatters
 unfolding run digit_of text_of spelled digit
 fitting_matters = (guid_of (2 ^ 32) 0 0 0, reads)
   where
-    reads : (r : Parsed) → Parses (text_of (guid_of (2 ^ 32) 0 0 0)) r → (r ≡ Read (guid_of (2 ^ 32) 0 0 0) → ⊥)
+    reads : (r : Result Guid BadGuid) → Parses (text_of (guid_of (2 ^ 32) 0 0 0)) r → (r ≡ Ok (guid_of (2 ^ 32) 0 0 0) → ⊥)
     reads r told e =
-        let same : ◌≡◌ {A = Ending Guid Reason} (read (guid_of 0 0 0 0)) (read (guid_of (2 ^ 32) 0 0 0)) = parses_run _ (Read (guid_of (2 ^ 32) 0 0 0)) (subst (λ (x : Parsed). Parses (text_of (guid_of (2 ^ 32) 0 0 0)) x) e told) in
+        let same : ◌≡◌ {A = Ending Guid Reason} (read (guid_of 0 0 0 0)) (read (guid_of (2 ^ 32) 0 0 0)) = parses_run _ (Ok (guid_of (2 ^ 32) 0 0 0)) (subst (λ (x : Result Guid BadGuid). Parses (text_of (guid_of (2 ^ 32) 0 0 0)) x) e told) in
         let guid : guid_of 0 0 0 0 ≡ guid_of (2 ^ 32) 0 0 0 = cc in
         let word : 0 ≡ 2 ^ 32 = ap (λ (g : Guid). g.w0) guid in
         omega arith

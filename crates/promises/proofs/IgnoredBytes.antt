@@ -1,8 +1,8 @@
 -- Inputs that differ only in bytes that reading ignores have the same content and read alike. Assumes nothing.
 use mathlib.Core.Path.{◌≡◌, refl, sym, ◌∙◌, ap}
-use mathlib.Core.Bool.{Bool, true, false}
-use mathlib.Core.List.{List, [], ◌∷◌}
-use Prim.Native.Nat.{ℕ, zero, suc, ◌+◌, ◌-◌, ◌<◌, ◌≤◌, min}
+use mathlib.Core.Bool.{true}
+use mathlib.Core.List.{List}
+use Prim.Native.Nat.{ℕ, zero, suc, ◌+◌, ◌-◌, ◌<◌, min}
 use native.Mathlib.Omega.{arith}
 use native.Mathlib.Nat.{add-zero}
 use lib.Dec.{eqb}
@@ -13,14 +13,12 @@ use Rattle.words.specs.Answer.{Answer, afterwards}
 use Rattle.words.specs.Buffer.{stretch}
 use Rattle.words.specs.Word.{word as word_at}
 use Rattle.words.proofs.WordLaws.{word_same}
-use Rattle.wire.specs.Layout.{null_mark, boolean, scalar, blob, flag, bits_of, values_in, id_at, type_at, aggregate_at, length_at, scalar_at, count_at, next_value, next_values, next_row, next_rows, row_words, value_words}
+use Rattle.wire.specs.Layout.{null_mark, boolean, scalar, blob, bits_of, values_in, type_at, length_at, scalar_at, count_at, next_value, next_values, next_row, next_rows, row_words, value_words}
 use Rattle.wire_read.specs.Reading.{reading}
 use Rattle.wire_read.proofs.Alike.{AlikeValue, AlikeValues, AlikeRows, Alike}
-use Rattle.wire_read.specs.Statement.{Decodes}
-use Rattle.wire_read.specs.declared.rowset.Decoded.{Decoded}
-use Rattle.wire_read.proofs.AlikeLaws.{next_value_alike, values_alike, rows_alike, read_alike}
+use Rattle.wire_read.proofs.AlikeLaws.{next_value_alike, values_alike, read_alike}
 use Rattle.wire_read.proofs.Unique.{decoded_injective}
-use Rattle.wire.specs.Content.{Content, nothing, word, bytes, Cell, Row, null, values}
+use Rattle.wire.specs.Content.{word, bytes, values}
 use Rattle.promises.specs.RowContent.{content_at, cell_at, cells_at, row_at, rows_at, rows_of}
 use Rattle.promises.specs.Rowsets.{Agree, SameValue, DifferOnlyThere, IgnoredBytes}
 use Rattle.promises.proofs.CellRound.{by_test}

@@ -1,8 +1,9 @@
 -- What `list` prints: the lines by their steps, each packet behind the one before it. Assumes nothing.
+use Rattle.std.specs.declared.result.Result.TheVariants.{Ok}
 use mathlib.Core.Path.{◌≡◌, refl, sym, ◌∙◌, ap, subst}
 use mathlib.Core.List.{List, ◌++◌}
 use mathlib.Core.Logic.{⊎_elim}
-use Prim.Native.Nat.{ℕ, zero, suc, ◌+◌, ◌-◌, ◌<◌, ◌≤◌}
+use Prim.Native.Nat.{ℕ, zero, suc, ◌+◌, ◌<◌, ◌≤◌}
 use native.Mathlib.Omega.{arith}
 use borrow.Author.Tests.{lt-ltb, le-ltb, le-leb, lt-leb}
 use lib.ListN.{length, take, drop, length-drop}
@@ -11,7 +12,6 @@ use Rattle.words.specs.Answer.{Answer, accepted, more, refused}
 use Rattle.words.proofs.AcceptLaws.{accepted_count}
 use Rattle.words.proofs.DecideLaws.{le_or_gt}
 use Rattle.packet_read.specs.Reading.{reading}
-use Rattle.listing.specs.declared.Listed.TheVariants.{Written}
 use Rattle.listing.specs.Statement.{Lists}
 use Rattle.listing.specs.Output.{most_bytes, text_room, answered, lines_then, lines_from, output}
 use Rattle.listing.proofs.WalkLaws.{accepts}
@@ -43,7 +43,7 @@ module _ (s : List ℕ) where
       (le_or_gt (length s) offset)
 
 -- What `list` wrote is its whole output.
-written_whole : (s before : List ℕ) (n : ℕ) (after : List ℕ) → Lists s before (Written n) after → text_room ≤ length before
+written_whole : (s before : List ℕ) (n : ℕ) (after : List ℕ) → Lists s before (Ok n) after → text_room ≤ length before
     → take n after ≡ output s
 written_whole s before n after told fits =
     let roomy = le-ltb (length before) text_room fits in

@@ -1,9 +1,10 @@
 -- Live mode answers as archive mode does, but for 24. Each result follows from the answer that its statement fixes, since a
 -- statement has one result. Assumes nothing.
+use Rattle.std.specs.declared.result.Result.TheVariants.{Err}
 use mathlib.Core.Path.{◌≡◌, refl, sym, ◌∙◌, ap}
 use mathlib.Core.Bool.{Bool, true, false, ◌&&◌, true≢false}
-use mathlib.Core.List.{List, [], ◌∷◌, ◌++◌}
-use Prim.Native.Nat.{ℕ, ◌%◌, ◌<◌}
+use mathlib.Core.List.{List, [], ◌∷◌}
+use Prim.Native.Nat.{ℕ, ◌%◌}
 use native.Mathlib.Nat.{zero-add}
 use native.Mathlib.Omega.{arith}
 use borrow.Author.Tests.{le-ltb, eq-eqb, ltb-false, eqb-true, not-false}
@@ -22,19 +23,15 @@ use Rattle.packet.specs.Entries.{entry_words, entries, room, outside_at}
 use Rattle.packet.specs.Mode.{retired_type}
 use Rattle.packet.specs.Paper.{type_number}
 use Rattle.packet.specs.Wire.{packet_size, parts_of}
-use Rattle.packet_answer.specs.declared.Decoded.{Decoded}
-use Rattle.packet_answer.specs.declared.Decoded.TheVariants as decoded
-use Rattle.packet_read.specs.Reading.{Limits, limited, order, fixed_lines, count_lines, variable_lines, size_lines, part_lines, room_lines, reading}
+use Rattle.packet_answer.specs.Paper.{Decoded}
+use Rattle.packet_read.specs.Reading.{limited, order, fixed_lines, count_lines, variable_lines, size_lines, part_lines, room_lines, reading}
 use Rattle.packet_read.specs.Stages.{through}
 use Rattle.packet_read.specs.Statement.{Decodes}
-use Rattle.packet_read.proofs.Lines.{rest, front, reading_is}
+use Rattle.packet_read.proofs.Lines.{rest, reading_is}
 use Rattle.packet_read.proofs.Unique.{decode_with_unique}
-use Rattle.packet_check.specs.declared.Measured.TheVariants as measured
-use Rattle.packet_check.specs.declared.Validated.TheVariants as validated
 use Rattle.packet_check.specs.Checks.{first_outside, table_lines, retired_lines, limit_lines, checks, validating, sizing}
 use Rattle.packet_check.proofs.Unique.{validate_unique, encoded_size_unique}
-use Rattle.packet_write.specs.declared.Encoded.{Encoded}
-use Rattle.packet_write.specs.declared.Encoded.TheVariants as encoded
+use Rattle.packet_write.specs.Paper.{Encoded}
 use Rattle.packet_write.specs.Statement.{Encodes, bytes_for}
 use Rattle.packet_write.specs.Writing as Writing
 use Rattle.packet_write.specs.Writing.{writing}
@@ -79,7 +76,7 @@ reading_live_is_archive_but_24 s bytes ceiling table archive live archived after
   λ so.
       let answer : reading s (limited Live bytes ceiling table) ≡ refuse 24 (retired_type ∷ []) =
       reading_is s (count s) (limited Live bytes ceiling table) refl ∙ retired_answer s _ so in
-      by_one (decoded.Refused (RetiredType retired_type) 0) table (record {
+      by_one (Err record { error = RetiredType retired_type; consumed = 0; }) table (record {
         answer = sym answer;
         tables = ap (λ (a : Answer). afterwards a (entries s) table) (sym answer);
       }),
@@ -151,18 +148,18 @@ writing_live_is_archive_but_24 type area table = (
         λ so.
             let answer : writing Live n area table (length out) ≡ refuse 24 (retired_type ∷ []) =
             by_checks area table Live n (length out) ∙ retired_checks area table _ type so in
-            by_one (encoded.Refused (RetiredType retired_type)) out (record { answer = sym answer; output = ap left (sym answer) }),
+            by_one (Err (RetiredType retired_type)) out (record { answer = sym answer; output = ap left (sym answer) }),
         λ other.
             let same : writing Live n area table (length out) ≡ writing Archive n area table (length out) =
             by_checks area table Live n (length out) ∙ same_checks area table _ type other ∙ sym (by_checks area table Archive n (length out)) in
             by_one archive archived (record { answer = in-archive.answer ∙ sym same; output = in-archive.output ∙ ap left (sym same) }),
       )),
   (λ archive live in-archive in-live. (
-    (λ so. encoded_size_unique Live type area table live (measured.Refused (RetiredType retired_type)) in-live (sym (retired_checks area table _ type so))),
+    (λ so. encoded_size_unique Live type area table live (Err (RetiredType retired_type)) in-live (sym (retired_checks area table _ type so))),
     (λ other. encoded_size_unique Live type area table live archive in-live (in-archive ∙ sym (same_checks area table _ type other))),
   )),
   (λ archive live in-archive in-live. (
-    (λ so. validate_unique Live type area table live (validated.Refused (RetiredType retired_type)) in-live (sym (retired_checks area table _ type so))),
+    (λ so. validate_unique Live type area table live (Err (RetiredType retired_type)) in-live (sym (retired_checks area table _ type so))),
     (λ other. validate_unique Live type area table live archive in-live (in-archive ∙ sym (same_checks area table _ type other))),
   )),
 )

@@ -9,9 +9,9 @@ pub use Rattle.guid.proofs.Unique.{Guid-from-parts-unique, Guid-parts-unique, Gu
 pub use Rattle.guid_text.proofs.Unique.{text_size_unique, print_unique, parse_unique}
 pub use Rattle.packet.proofs.Unique.{type_number_unique, type_of_unique, refused_unique, is_retired_unique, has_variable_header_unique, contains_unique, is_null_unique, is_outside_unique, part_unique}
 pub use Rattle.packet_sum.proofs.Unique.{part_checksum_unique}
-pub use Rattle.packet_answer.proofs.Unique.{outcome_unique as decoded-outcome-unique}
+pub use Rattle.packet_answer.proofs.Unique.{outcome_unique as decoded-outcome-unique, refusal_unique as packet-refusal-unique}
 pub use Rattle.packet_read.proofs.Unique.{decode_with_unique, decode_unique}
-pub use Rattle.packet_check.proofs.Unique.{validate_unique, encoded_size_unique as packet-encoded-size-unique}
+pub use Rattle.packet_check.proofs.Unique.{validate_unique, encoded_size_unique as packet-encoded-size-unique, outcome_unique as packet-measured-outcome-unique}
 pub use Rattle.packet_write.proofs.Unique.{encode_unique}
 pub use Rattle.wire.proofs.Unique.{values_in_unique, padded_unique, flag_unique, kind_of_unique, need_at_unique, outcome_unique as wire-error-outcome-unique}
 pub use Rattle.wire_value.proofs.Unique.{read_header_unique, check_value_unique, read_value_unique, outcome_unique as read-value-outcome-unique}

@@ -1,4 +1,6 @@
 -- The lent table of an accepted packet lends each part. Assumes nothing.
+use Rattle.std.specs.declared.option.Option.TheVariants.{Some, None}
+use Rattle.std.specs.declared.result.Result.TheVariants.{Ok}
 use mathlib.Core.Path.{◌≡◌, refl, sym, ◌∙◌, ap}
 use mathlib.Core.Bool.{Bool, true, false, or-true}
 use mathlib.Core.List.{List, [], ◌∷◌, ◌++◌}
@@ -20,7 +22,6 @@ use Rattle.packet.specs.Entries.{entry_words, entry, entries_from, entries, room
 use Rattle.packet_read.specs.Reading.{Limits, reading}
 use Rattle.packet.specs.Paper.{fields_of}
 use Rattle.packet.specs.declared.Packet.{Packet}
-use Rattle.packet_answer.specs.declared.Decoded.TheVariants.{Read, More}
 use Rattle.packet_read.specs.Statement.{Decodes}
 use Rattle.packet_read.proofs.EntryLaws.{length_entries, words_at}
 use Rattle.packet_read.proofs.SizeLaws.{taken_below}
@@ -99,7 +100,7 @@ module _ (s table : List ℕ) (n : ℕ) (there : whole s n ≤ length s) (roomy 
 
 -- what an accepted packet says of its parts, and what its table holds
 module _ (s : List ℕ) (limits : Limits) (table : List ℕ) (packet : Packet) (consumed : ℕ) (after : List ℕ)
-    (read : Decodes s limits table (Read packet consumed) after) where
+    (read : Decodes s limits table (Ok (Some record { packet = packet; consumed = consumed; })) after) where
   all : Acceptable s limits × (consumed ≡ consumedOf s) × (fields_of packet ≡ fields s)
   all = (acceptance s limits).1 consumed (fields_of packet) (sym read.answer)
 
@@ -151,8 +152,8 @@ written_is_lent mode type flags id area table out n after tail limits lent r fil
     let p : Packet = record { packet_type = type; flags = flags; id = id; parts = length (parts_of area table) } in
     let back = written_reads mode type flags id area table out n after told tail limits flags_fit id_fits held in
     let ok : Valid _ = given_valid mode type flags id area table out n after flags_fit id_fits told in
-    let same : r ≡ Read p n = paper_injective r (Read p n) (read.answer ∙ back.0) in
-    let read-so : Decodes s limits lent (Read p n) filled = rw same at read in
+    let same : r ≡ Ok (Some record { packet = p; consumed = n; }) = paper_injective r (Ok (Some record { packet = p; consumed = n; })) (read.answer ∙ back.0) in
+    let read-so : Decodes s limits lent (Ok (Some record { packet = p; consumed = n; })) filled = rw same at read in
     let parts = parts_are_lent s limits lent p n filled roomy read-so in (
       same,
       λ i h.
@@ -171,5 +172,5 @@ prefix_asks_for_more mode type flags id area table out n after limits lent r fil
     let waits : reading (take k after) limits ≡ more =
     ap (λ (s : List ℕ). reading s limits) front
     ∙ strict_prefix m limits k ok held (rw (written_size mode type flags id area table out n after told) short) in
-    let same : r ≡ More = paper_injective r More (read.answer ∙ waits) in
+    let same : r ≡ Ok None = paper_injective r (Ok None) (read.answer ∙ waits) in
     (same, holds_kept (reading (take k after) limits) (entries (take k after)) lent filled (rw waits tt) read.tables)

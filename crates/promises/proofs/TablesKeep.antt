@@ -1,20 +1,14 @@
 -- A refusal or need-more changes no lent table or buffer, and an acceptance nothing past its entries. Assumes nothing.
 use mathlib.Core.Path.{◌≡◌, refl, sym, ◌∙◌, ap}
-use mathlib.Core.Bool.{Bool, true, false}
-use mathlib.Core.List.{List, [], ◌∷◌}
+use mathlib.Core.List.{List}
 use Prim.Native.Nat.{ℕ, ◌*◌}
 use lib.ListN.{length, drop}
 use lib.Seq.{drop_at}
-use borrow.Author.Tests.{ltb-true}
-use Rattle.words.specs.Answer.{Answer, accepted, more, refused, refuse, afterwards}
-use Rattle.words.specs.Decide.{pick, ◌<?◌}
-use Rattle.words.specs.Buffer.{fitted}
-use Rattle.words.proofs.AnswerLaws.{refused_not_accepted}
+use Rattle.words.specs.Answer.{Answer, accepted, more, refused, afterwards}
 use Rattle.words.proofs.Unique.{holds_kept}
 use Rattle.packet_read.specs.Reading.{reading}
 use Rattle.packet_write.specs.Writing.{writing}
 use Rattle.packet.specs.Paper.{type_number}
-use Rattle.words.proofs.BufferLaws.{fitted_short}
 use Rattle.guid_text.specs.Text.{text_of}
 use Rattle.packet.specs.Layout.{count}
 use Rattle.packet.specs.Entries.{entry_words, entries}

@@ -2,7 +2,7 @@
 -- consecutive bits, each byte's high bit first, that lies wholly in one checksummed stretch whose stored word is not 0.
 -- Then the reader refuses it by that stretch's checksum. One statement over the stretch and over the kind of damage: a
 -- new refusal of the fixed header that comes before 5 is one line of `Names`. Assumes nothing.
-use Rattle.std.specs.Prelude.{ℕ, ◌+◌, ◌*◌, ◌≤◌, ◌<◌, true, List, [], ◌∷◌, ◌≡◌, length}
+use Rattle.std.specs.Prelude.{ℕ, ◌+◌, ◌*◌, ◌≤◌, ◌<◌, true, List, [], ◌∷◌, ◌≡◌, length, Some, Ok}
 use Rattle.words.specs.Word.{Bytes}
 use Rattle.words.specs.Answer.{Answer, refused, refuse}
 use Rattle.words.specs.Buffer.{stretch}
@@ -14,9 +14,7 @@ use Rattle.packet.specs.declared.Packet.{Packet}
 use Rattle.packet.specs.declared.Mode.{Mode}
 use Rattle.packet.specs.declared.Mode.TheVariants.{Live}
 use Rattle.packet.specs.Mode.{is_retired}
-use Rattle.packet_answer.specs.declared.Decoded.{Decoded}
-use Rattle.packet_answer.specs.declared.Decoded.TheVariants.{Read}
-use Rattle.packet_answer.specs.Paper.{paper}
+use Rattle.packet_answer.specs.Paper.{Decoded, paper}
 use Rattle.packet_read.specs.Statement.{Decodes, default_ceiling}
 use Rattle.packet_read.specs.Reading.{Limits, limited}
 use Rattle.promises.specs.BitRuns.{bits}
@@ -104,7 +102,7 @@ abbrev pub NamedWhere : (List ℕ → List ℕ → Stretch → ℕ → ℕ → T
 NamedWhere Altered =
     (s t : List ℕ) (limits : Limits) (table lent : List ℕ) (packet : Packet) (consumed : ℕ) (filled : List ℕ)
     (r : Decoded) (after : List ℕ) (part : Stretch) (at run : ℕ)
-    → Decodes s limits table (Read packet consumed) filled
+    → Decodes s limits table (Ok (Some record { packet = packet; consumed = consumed; })) filled
     → Altered s t part at run
     → Decodes t limits lent r after
     → Names t limits.mode part (paper r) × (after ≡ lent)
@@ -128,7 +126,7 @@ NamedUnder mode ceiling =
     (s t : List ℕ) (limit : ℕ) (table lent : List ℕ) (packet : Packet) (consumed : ℕ) (filled : List ℕ)
     (r : Decoded) (after : List ℕ) (part : Stretch) (at run : ℕ)
     → length table ≡ length lent
-    → Decodes s (limited mode limit ceiling table) table (Read packet consumed) filled
+    → Decodes s (limited mode limit ceiling table) table (Ok (Some record { packet = packet; consumed = consumed; })) filled
     → Hit s t part at run
     → Decodes t (limited mode limit ceiling lent) lent r after
     → Names t mode part (paper r) × (after ≡ lent)
@@ -149,5 +147,5 @@ pub record DamageHappens : Type 0 where
   pub sent : List ℕ
   pub received : List ℕ
   pub packet : Packet
-  pub read : Decodes sent nothing [] (Read packet fixed_header_size) []
+  pub read : Decodes sent nothing [] (Ok (Some record { packet = packet; consumed = fixed_header_size; })) []
   pub hit : Hit sent received fixed_header 71 1

@@ -1,13 +1,14 @@
 -- Document 01's examples that are marked P, in one table: what the definitions answer is what the document says. The
 -- two texts of GUIDs that are read are answered as document 02, A5, has it. Behind them three of its A12: an SslAck in
 -- each mode, and type 258. Assumes nothing.
-use Rattle.std.specs.Prelude.{ℕ, ◌^◌, ◌-◌, List, [], ◌∷◌, ◌++◌, ◌≡◌, take}
+use Rattle.std.specs.Prelude.{ℕ, ◌^◌, ◌-◌, List, [], ◌∷◌, ◌++◌, ◌≡◌, take, Result}
 use Rattle.words.specs.Word.{bytes_of}
 use Rattle.words.specs.Answer.{Answer, accepted, more, refuse}
 use Rattle.words.specs.Text.{text}
 use Rattle.crc64.specs.Polynomial.{checksum}
 use Rattle.guid.specs.Guid.{guid_of}
-use Rattle.guid_text.specs.declared.Parsed.{Parsed}
+use Rattle.guid.specs.declared.Guid.{Guid}
+use Rattle.guid_text.specs.declared.BadGuid.{BadGuid}
 use Rattle.guid_text.specs.Text.{text_of}
 use Rattle.guid_text.specs.Paper.{parsed_paper}
 use Rattle.guid_text.specs.Statement.{Parses}
@@ -38,7 +39,7 @@ empty_row = bytes_of 8 1 ++ bytes_of 8 0
 
 -- this text is read with this answer
 abbrev pub TextAnswered : List ℕ → Answer → Type 0
-TextAnswered s answer = (r : Parsed) × Parses s r × (parsed_paper r ≡ answer)
+TextAnswered s answer = (r : Result Guid BadGuid) × Parses s r × (parsed_paper r ≡ answer)
 
 abbrev pub Examples : Type 0
 Examples =

@@ -1,6 +1,6 @@
 -- The third word of a part's entry. Document 02, A6: "The part table gets a third word, the checksum word as stored in
 -- the packet, null parts included. The writer doesn't read it." Assumes nothing.
-use Rattle.std.specs.Prelude.{ℕ, ◌+◌, ◌*◌, ◌^◌, ◌<◌, List, ◌++◌, ◌≡◌, length, get_or, take}
+use Rattle.std.specs.Prelude.{ℕ, ◌+◌, ◌*◌, ◌^◌, ◌<◌, List, ◌++◌, ◌≡◌, length, get_or, take, Some, Ok}
 use Rattle.words.specs.Word.{word}
 use Rattle.guid.specs.declared.Guid.{Guid}
 use Rattle.guid.specs.Guid.{Fitting}
@@ -11,15 +11,12 @@ use Rattle.packet.specs.declared.Mode.{Mode}
 use Rattle.packet.specs.declared.PacketType.{PacketType}
 use Rattle.packet.specs.declared.PacketFlags.{PacketFlags}
 use Rattle.packet.specs.declared.Packet.{Packet}
-use Rattle.packet_answer.specs.declared.Decoded.{Decoded}
-use Rattle.packet_answer.specs.declared.Decoded.TheVariants.{Read}
+use Rattle.packet_answer.specs.Paper.{Decoded}
 use Rattle.packet_read.specs.Reading.{Limits}
 use Rattle.packet_read.specs.Statement.{Decodes}
-use Rattle.packet_check.specs.declared.Validated.{Validated}
-use Rattle.packet_check.specs.declared.Measured.{Measured}
+use Rattle.packet_check.specs.Paper.{Validated, Measured}
 use Rattle.packet_check.specs.Statement.{Validates, Measures}
-use Rattle.packet_write.specs.declared.Encoded.{Encoded}
-use Rattle.packet_write.specs.declared.Encoded.TheVariants.{Written}
+use Rattle.packet_write.specs.Paper.{Encoded}
 use Rattle.packet_write.specs.Statement.{Encodes}
 use Rattle.promises.specs.RoundTrip.{Held, given}
 
@@ -28,7 +25,7 @@ abbrev pub SumsAreTold : Type 0
 SumsAreTold =
     (s : List ℕ) (limits : Limits) (table : List ℕ) (packet : Packet) (consumed : ℕ) (filled : List ℕ)
     → limits.room ≡ room table
-    → Decodes s limits table (Read packet consumed) filled
+    → Decodes s limits table (Ok (Some record { packet = packet; consumed = consumed; })) filled
     → (i : ℕ) → i < count s
     → sum_at filled i ≡ word 8 s (fixed_header_size + size_bytes * count s + checksum_bytes * i)
 
@@ -38,7 +35,7 @@ WrittenIsGuarded =
     (mode : Mode) (type : PacketType) (flags : PacketFlags) (id : Guid) (area table out : List ℕ)
     (n : ℕ) (after tail : List ℕ) (limits : Limits) (lent : List ℕ) (r : Decoded) (filled : List ℕ)
     → flags.0 < 2 ^ 16 → Fitting id
-    → Encodes mode type flags id area table out (Written n) after
+    → Encodes mode type flags id area table out (Ok n) after
     → limits.room ≡ room lent
     → Held (given type flags id area table) limits
     → Decodes (take n after ++ tail) limits lent r filled

@@ -1,14 +1,12 @@
 -- What the program `list` prints, said of the crate's function by its own statement `Lists`. Document 01: "reads
 -- standard input, at most 65,536 bytes (more prints `too long`), with limits 65,536 bytes and 2,048 parts." It reads in
 -- archive mode. Assumes nothing.
-use Rattle.std.specs.Prelude.{ℕ, ◌+◌, ◌≤◌, ◌<◌, List, ◌++◌, ◌≡◌, length, take, drop, get_or}
+use Rattle.std.specs.Prelude.{ℕ, ◌+◌, ◌≤◌, ◌<◌, List, ◌++◌, ◌≡◌, length, take, drop, get_or, Ok}
 use Rattle.words.specs.Answer.{accepted, more, refused}
 use Rattle.words.specs.Text.{text}
 use Rattle.packet.specs.Entries.{entries}
 use Rattle.packet.specs.declared.Mode.TheVariants.{Archive}
 use Rattle.packet_read.specs.Reading.{Limits, reading}
-use Rattle.listing.specs.declared.Listed.{Listed}
-use Rattle.listing.specs.declared.Listed.TheVariants.{Written}
 use Rattle.listing.specs.Text.{packet_line, part_lines, end_line, more_line, refused_line}
 use Rattle.listing.specs.Statement.{Lists}
 
@@ -34,5 +32,5 @@ pub data Printed (s : List ℕ) : ℕ → List ℕ → Type 0 where
 -- bytes, and `too long` for a longer one.
 abbrev pub ListPrints : Type 0
 ListPrints =
-    (s before : List ℕ) (n : ℕ) (after : List ℕ) → Lists s before (Written n) after → 327_808 ≤ length before
+    (s before : List ℕ) (n : ℕ) (after : List ℕ) → Lists s before (Ok n) after → 327_808 ≤ length before
     → (length s ≤ 65_536 → Printed s 0 (take n after)) × (65_536 < length s → take n after ≡ text "too long\n")

@@ -1,7 +1,7 @@
 -- What live mode changes, of the functions by their own statements. Document 02, A12: "no live peer may send type 2.
 -- Add a live mode, chosen by the caller: its reader and its writer refuse type 2. [..] Demand 2's equality with the
 -- Rust is claimed for archive mode, and in live mode for every other type." Assumes nothing.
-use Rattle.std.specs.Prelude.{ℕ, ◌%◌, ◌≤◌, ◌<◌, false, List, ◌≡◌, length}
+use Rattle.std.specs.Prelude.{ℕ, ◌%◌, ◌≤◌, ◌<◌, false, List, ◌≡◌, length, Ok, Err}
 use Rattle.words.specs.Answer.{Answer, refused}
 use Rattle.guid.specs.declared.Guid.{Guid}
 use Rattle.packet.specs.declared.Mode.{Mode}
@@ -14,19 +14,13 @@ use Rattle.packet.specs.Layout.{packet_signature, fixed_header_size, signature, 
 use Rattle.packet.specs.Entries.{entry_words, room, outside_at}
 use Rattle.packet.specs.Mode.{retired_type, is_retired}
 use Rattle.packet.specs.Paper.{type_number}
-use Rattle.packet_answer.specs.declared.Decoded.{Decoded}
-use Rattle.packet_answer.specs.declared.Decoded.TheVariants as decoded
+use Rattle.packet_answer.specs.Paper.{Decoded}
 use Rattle.packet_answer.specs.Paper as reading
 use Rattle.packet_read.specs.Reading.{limited}
 use Rattle.packet_read.specs.Statement.{Decodes}
-use Rattle.packet_check.specs.declared.Validated.{Validated}
-use Rattle.packet_check.specs.declared.Validated.TheVariants as validated
-use Rattle.packet_check.specs.declared.Measured.{Measured}
-use Rattle.packet_check.specs.declared.Measured.TheVariants as measured
-use Rattle.packet_check.specs.Paper.{paper_validated, paper_measured}
+use Rattle.packet_check.specs.Paper.{Validated, Measured, paper_validated, paper_measured}
 use Rattle.packet_check.specs.Statement.{Validates, Measures}
-use Rattle.packet_write.specs.declared.Encoded.{Encoded}
-use Rattle.packet_write.specs.declared.Encoded.TheVariants as encoded
+use Rattle.packet_write.specs.Paper.{Encoded}
 use Rattle.packet_write.specs.Paper as writing
 use Rattle.packet_write.specs.Statement.{Encodes}
 
@@ -43,7 +37,7 @@ ReadingLiveIsArchiveBut24 =
     (s : List ℕ) (bytes ceiling : ℕ) (table : List ℕ) (archive live : Decoded) (archived after : List ℕ)
     → Decodes s (limited Archive bytes ceiling table) table archive archived
     → Decodes s (limited Live bytes ceiling table) table live after
-    → (Retired s → (live ≡ decoded.Refused (RetiredType retired_type) 0) × (after ≡ table))
+    → (Retired s → (live ≡ Err record { error = RetiredType retired_type; consumed = 0; }) × (after ≡ table))
     × ((Retired s → ⊥) → (live ≡ archive) × (after ≡ archived))
 
 -- a packet to write that is an SslAck, and whose table 18 does not refuse: it has whole entries, and none outside the
@@ -60,13 +54,13 @@ WritingLiveIsArchiveBut24 =
     → ((flags : PacketFlags) (id : Guid) (out : List ℕ) (archive live : Encoded) (archived after : List ℕ)
     → Encodes Archive type flags id area table out archive archived
     → Encodes Live type flags id area table out live after
-    → (RetiredToWrite type area table → (live ≡ encoded.Refused (RetiredType retired_type)) × (after ≡ out))
+    → (RetiredToWrite type area table → (live ≡ Err (RetiredType retired_type)) × (after ≡ out))
     × ((RetiredToWrite type area table → ⊥) → (live ≡ archive) × (after ≡ archived)))
     × ((archive live : Measured) → Measures Archive type area table archive → Measures Live type area table live
-    → (RetiredToWrite type area table → live ≡ measured.Refused (RetiredType retired_type))
+    → (RetiredToWrite type area table → live ≡ Err (RetiredType retired_type))
     × ((RetiredToWrite type area table → ⊥) → live ≡ archive))
     × ((archive live : Validated) → Validates Archive type area table archive → Validates Live type area table live
-    → (RetiredToWrite type area table → live ≡ validated.Refused (RetiredType retired_type))
+    → (RetiredToWrite type area table → live ≡ Err (RetiredType retired_type))
     × ((RetiredToWrite type area table → ⊥) → live ≡ archive))
 
 -- what a mode writes is of no type that it calls retired, so that the same mode reads it back (`written_is_lent`)
@@ -74,7 +68,7 @@ abbrev pub WrittenIsCurrent : Type 0
 WrittenIsCurrent =
     (mode : Mode) (type : PacketType) (flags : PacketFlags) (id : Guid) (area table out : List ℕ)
     (n : ℕ) (after : List ℕ)
-    → Encodes mode type flags id area table out (encoded.Written n) after
+    → Encodes mode type flags id area table out (Ok n) after
     → is_retired mode (type_number type) ≡ false
 
 -- an answer that is no 24

@@ -1,6 +1,6 @@
 -- What the reader hands back, part by part: the lent table of an accepted packet names a null part exactly where the
 -- packet has one, and `part` lends each part's bytes, where they lie in the input. Assumes nothing.
-use Rattle.std.specs.Prelude.{ℕ, ◌+◌, ◌^◌, ◌≤◌, ◌<◌, true, false, List, [], ◌++◌, ◌⊎◌, ◌≡◌, length, get_or, take}
+use Rattle.std.specs.Prelude.{ℕ, ◌+◌, ◌^◌, ◌≤◌, ◌<◌, true, false, List, [], ◌++◌, ◌⊎◌, ◌≡◌, length, get_or, take, Some, None, Ok}
 use Rattle.words.specs.Buffer.{stretch}
 use Rattle.guid.specs.declared.Guid.{Guid}
 use Rattle.guid.specs.Guid.{Fitting}
@@ -11,14 +11,12 @@ use Rattle.packet.specs.declared.Mode.{Mode}
 use Rattle.packet.specs.declared.PacketType.{PacketType}
 use Rattle.packet.specs.declared.PacketFlags.{PacketFlags}
 use Rattle.packet.specs.declared.Packet.{Packet}
-use Rattle.packet_answer.specs.declared.Decoded.{Decoded}
-use Rattle.packet_answer.specs.declared.Decoded.TheVariants.{Read, More}
+use Rattle.packet_answer.specs.Paper.{Decoded}
 use Rattle.packet_read.specs.Reading.{Limits}
 use Rattle.packet_read.specs.Statement.{Decodes}
 use Rattle.packet.specs.Entries.{null_at, outside_at}
 use Rattle.packet.specs.Statement.{LendsPart}
 use Rattle.packet.specs.Wire.{Part, null, bytes, parts_of}
-use Rattle.packet_write.specs.declared.Encoded.TheVariants.{Written}
 use Rattle.packet_write.specs.Statement.{Encodes}
 use Rattle.promises.specs.RoundTrip.{Held, given}
 
@@ -38,7 +36,7 @@ abbrev pub PartsAreLent : Type 0
 PartsAreLent =
     (s : List ℕ) (limits : Limits) (table : List ℕ) (packet : Packet) (consumed : ℕ) (filled : List ℕ)
     → limits.room ≡ room table
-    → Decodes s limits table (Read packet consumed) filled
+    → Decodes s limits table (Ok (Some record { packet = packet; consumed = consumed; })) filled
     → (packet.parts ≡ count s)
     × ((i : ℕ) → i < count s
     → (is_null s i ≡ true → (null_at filled i ≡ true) × LendsFront s filled i)
@@ -64,11 +62,11 @@ WrittenIsLent =
     (mode : Mode) (type : PacketType) (flags : PacketFlags) (id : Guid) (area table out : List ℕ)
     (n : ℕ) (after tail : List ℕ) (limits : Limits) (lent : List ℕ) (r : Decoded) (filled : List ℕ)
     → flags.0 < 2 ^ 16 → Fitting id
-    → Encodes mode type flags id area table out (Written n) after
+    → Encodes mode type flags id area table out (Ok n) after
     → limits.room ≡ room lent
     → Held (given type flags id area table) limits
     → Decodes (take n after ++ tail) limits lent r filled
-    → (r ≡ Read (record { packet_type = type; flags = flags; id = id; parts = length (parts_of area table) }) n)
+    → (r ≡ Ok (Some record { packet = record { packet_type = type; flags = flags; id = id; parts = length (parts_of area table) }; consumed = n; }))
     × ((i : ℕ) → i < length (parts_of area table)
     → Lends (take n after ++ tail) filled i (get_or (parts_of area table) i null))
 
@@ -78,8 +76,8 @@ PrefixAsksForMore =
     (mode : Mode) (type : PacketType) (flags : PacketFlags) (id : Guid) (area table out : List ℕ)
     (n : ℕ) (after : List ℕ) (limits : Limits) (lent : List ℕ) (r : Decoded) (filled : List ℕ) (k : ℕ)
     → flags.0 < 2 ^ 16 → Fitting id
-    → Encodes mode type flags id area table out (Written n) after
+    → Encodes mode type flags id area table out (Ok n) after
     → Held (given type flags id area table) limits
     → k < n
     → Decodes (take k after) limits lent r filled
-    → (r ≡ More) × (filled ≡ lent)
+    → (r ≡ Ok None) × (filled ≡ lent)

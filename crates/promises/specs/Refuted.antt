@@ -1,6 +1,6 @@
 -- The promises with one word changed, each of which is false: a theorem beside it has the witness. So each of those
 -- words is needed. Assumes nothing.
-use Rattle.std.specs.Prelude.{ℕ, zero, suc, ◌+◌, ◌*◌, ◌/◌, ◌%◌, ◌≤◌, List, [], ◌∷◌, ◌++◌, ◌≡◌, length, take}
+use Rattle.std.specs.Prelude.{ℕ, zero, suc, ◌+◌, ◌*◌, ◌/◌, ◌%◌, ◌≤◌, List, [], ◌∷◌, ◌++◌, ◌≡◌, length, take, Some, Ok}
 use Rattle.words.specs.Word.{Bytes}
 use Rattle.words.specs.Answer.{more, refuse}
 use Rattle.words.specs.Buffer.{stretch}
@@ -11,9 +11,7 @@ use Rattle.packet.specs.Layout.{count, fixed_sum, fixed_fields}
 use Rattle.packet_read.specs.Reading.{Limits, reading}
 use Rattle.packet.specs.declared.Packet.{Packet}
 use Rattle.packet.specs.declared.Mode.TheVariants.{Archive}
-use Rattle.packet_answer.specs.declared.Decoded.{Decoded}
-use Rattle.packet_answer.specs.declared.Decoded.TheVariants.{Read}
-use Rattle.packet_answer.specs.Paper.{paper}
+use Rattle.packet_answer.specs.Paper.{Decoded, paper}
 use Rattle.packet_read.specs.Statement.{Decodes}
 use Rattle.promises.specs.BitRuns.{bits, Unseen}
 use Rattle.promises.specs.Damage.{Stretch, fixed_header, Has, from, long, stored, Inside, Hit, Names, NamedWhere}
@@ -100,7 +98,7 @@ abbrev pub AlwaysBy5 : Type 0
 AlwaysBy5 =
     (s t : List ℕ) (limits : Limits) (table : List ℕ) (packet : Packet) (consumed : ℕ) (filled : List ℕ)
     (r : Decoded) (after : List ℕ) (at run : ℕ)
-    → Decodes s limits table (Read packet consumed) filled
+    → Decodes s limits table (Ok (Some record { packet = packet; consumed = consumed; })) filled
     → Hit s t fixed_header at run
     → Decodes t limits table r after
     → paper r ≡ refuse 5 (fixed_sum t ∷ checksum (fixed_fields t) ∷ [])
@@ -110,7 +108,7 @@ abbrev pub NamedWithout24 : Type 0
 NamedWithout24 =
     (s t : List ℕ) (limits : Limits) (table : List ℕ) (packet : Packet) (consumed : ℕ) (filled : List ℕ)
     (r : Decoded) (after : List ℕ) (at run : ℕ)
-    → Decodes s limits table (Read packet consumed) filled
+    → Decodes s limits table (Ok (Some record { packet = packet; consumed = consumed; })) filled
     → Hit s t fixed_header at run
     → Decodes t limits table r after
     → Names t Archive fixed_header (paper r)

@@ -2,7 +2,7 @@
 -- under limits and room that hold it, gives back its type, flags, id, nulls and part bytes and consumes exactly its
 -- bytes; each strict prefix gives need-more." Both sides cite one definition of what a packet is on the wire,
 -- `packet_bytes`. Assumes nothing.
-use Rattle.std.specs.Prelude.{ℕ, ◌+◌, ◌^◌, ◌≤◌, ◌<◌, true, false, List, [], ◌∷◌, ◌++◌, ◌≡◌, length, get_or, take}
+use Rattle.std.specs.Prelude.{ℕ, ◌^◌, ◌≤◌, ◌<◌, true, false, List, [], ◌∷◌, ◌++◌, ◌≡◌, length, get_or, take}
 use Rattle.words.specs.Answer.{accepted, more}
 use Rattle.packet.specs.Layout.{null_size, largest_part, most_parts, last_type, has_variable_header, size, part}
 use Rattle.packet.specs.Mode.{is_retired}

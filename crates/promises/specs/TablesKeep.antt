@@ -1,22 +1,19 @@
 -- Demand 1, its second sentence: a refusal or need-more changes no lent table or buffer. The statements are those that
 -- the contracts of the functions cite by name. Assumes nothing.
-use Rattle.std.specs.Prelude.{ℕ, ◌*◌, List, ◌≡◌, drop}
+use Rattle.std.specs.Prelude.{ℕ, ◌*◌, List, ◌≡◌, drop, Err}
 use Rattle.words.specs.Answer.{NotTaken}
 use Rattle.words.specs.declared.outcome.NoRoom.{NoRoom}
 use Rattle.guid.specs.declared.Guid.{Guid}
-use Rattle.guid_text.specs.declared.Printed.TheVariants as printed
 use Rattle.guid_text.specs.Statement.{Prints}
-use Rattle.packet_answer.specs.declared.Decoded.{Decoded}
 use Rattle.packet.specs.declared.Mode.{Mode}
 use Rattle.packet.specs.declared.PacketType.{PacketType}
 use Rattle.packet.specs.declared.PacketFlags.{PacketFlags}
 use Rattle.packet.specs.declared.PacketError.{PacketError}
 use Rattle.packet.specs.Layout.{count}
 use Rattle.packet.specs.Entries.{entry_words}
-use Rattle.packet_answer.specs.Paper.{paper}
+use Rattle.packet_answer.specs.Paper.{Decoded, paper}
 use Rattle.packet_read.specs.Reading.{Limits}
 use Rattle.packet_read.specs.Statement.{Decodes}
-use Rattle.packet_write.specs.declared.Encoded.TheVariants as packets
 use Rattle.packet_write.specs.Statement.{Encodes}
 use Rattle.wire.specs.declared.error.WireError.{WireError}
 use Rattle.wire_read.specs.Statement as rowset
@@ -35,7 +32,7 @@ abbrev pub PacketOutputKeeps : Type 0
 PacketOutputKeeps =
     (mode : Mode) (type : PacketType) (flags : PacketFlags) (id : Guid) (area table out : List ℕ)
     (error : PacketError) (after : List ℕ)
-    → Encodes mode type flags id area table out (packets.Refused error) after → after ≡ out
+    → Encodes mode type flags id area table out (Err error) after → after ≡ out
 
 -- the reader of rowsets, and its two tables
 abbrev pub RowsetTablesKeep : Type 0
@@ -53,4 +50,4 @@ RowsetOutputKeeps =
 abbrev pub TextKeeps : Type 0
 TextKeeps =
     (g : Guid) (before : List ℕ) (short : NoRoom) (after : List ℕ)
-    → Prints g before (printed.Refused short) after → after ≡ before
+    → Prints g before (Err short) after → after ≡ before

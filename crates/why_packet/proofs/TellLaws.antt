@@ -156,12 +156,12 @@ module _ (s : List ℕ) (mode : Mode) (limit ceiling : ℕ) (table : List ℕ) (
         let telling : more_tells s (count s) ≡ explain (packet_checks s mode limit ceiling) = rw e at answer_tells in
         Told-more ∙ ap (more_tells s) is ∙ telling
 
-    pub refusal_inside : (error : PacketError) (consumed : ℕ) → r ≡ Err record { error = error; consumed = consumed; } → Inside k (number_of error) (values_of error)
+    pub refusal_inside : (error : PacketError) (consumed : ℕ) → r ≡ Err record { error = error; consumed = consumed } → Inside k (number_of error) (values_of error)
     refusal_inside error consumed e =
         let stands : Inside (count s) (number_of error) (values_of error) = rw e at answer_stands in
         rw is stands
 
-    pub refusal_explains : (error : PacketError) (consumed : ℕ) (told-it : Saying) → r ≡ Err record { error = error; consumed = consumed; } → told-it ≡ refusal_tells k ceiling (number_of error) (values_of error)
+    pub refusal_explains : (error : PacketError) (consumed : ℕ) (told-it : Saying) → r ≡ Err record { error = error; consumed = consumed } → told-it ≡ refusal_tells k ceiling (number_of error) (values_of error)
         → told-it ≡ explain (packet_checks s mode limit ceiling)
     unfolding tells
     refusal_explains error consumed told-it e told-refusal =

@@ -19,7 +19,8 @@ use packet_answer::{Refusal, outcome};
 use packet_read::decode_with;
 use word_read::read_u32;
 
-// The most parts that a packet may have under this ceiling.
+// The most parts that a packet may have under this ceiling: the same as in `packet_read`, where it is private, since
+// only what a caller needs is public and promised.
 fn most_parts(ceiling: u32) -> u32
     ensures { result ≡ min most_parts ceiling }
 {

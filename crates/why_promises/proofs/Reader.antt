@@ -1,4 +1,7 @@
 -- What is told of a packet agrees with what its reader answers. Assumes nothing.
+use Rattle.std.specs.declared.option.Option.TheVariants.{Some, None}
+use Rattle.std.specs.declared.result.Result.TheVariants.{Ok, Err}
+use Rattle.packet.specs.Paper.{refusal}
 use Prim.Native.Nat.{ℕ}
 use mathlib.Core.Bool.{Bool, true, false}
 use mathlib.Core.List.{List, []}
@@ -9,9 +12,7 @@ use Rattle.words.specs.Decide.{pick, ◌<?◌}
 use Rattle.packet.specs.Layout.{count, fixed_header_size, headers, whole}
 use Rattle.packet.specs.declared.PacketError.{PacketError}
 use Rattle.packet.specs.declared.PacketError.TheVariants.{Signature, UnknownType, TooManyParts, PartTooLarge, FixedHeaderChecksum, VariableHeaderChecksum, PartChecksum, MessageTooLarge, NoRoom, BadTable, RetiredType}
-use Rattle.packet_answer.specs.Paper.{paper}
-use Rattle.packet_answer.specs.declared.Decoded.{Decoded}
-use Rattle.packet_answer.specs.declared.Decoded.TheVariants.{Read, More, Refused}
+use Rattle.packet_answer.specs.Paper.{Decoded, paper}
 use Rattle.finding.specs.Saying.{Saying, waiting}
 use Rattle.finding.specs.Meaning.{meaning}
 use Rattle.why_packet.specs.Stages.{refusal_tells, more_tells, tells}
@@ -23,21 +24,25 @@ either_waits true b n m k = refl
 either_waits false true n m k = refl
 either_waits false false n m k = refl
 
+refusal_agrees : (s : List ℕ) (ceiling : ℕ) (error : PacketError) (consumed : ℕ) → AgreesWith (refusal error consumed) (tells s (count s) ceiling (refusal error consumed))
+unfolding tells refusal_tells
+refusal_agrees s ceiling (Signature found) consumed = refl
+refusal_agrees s ceiling (UnknownType found) consumed = refl
+refusal_agrees s ceiling (TooManyParts n) consumed = refl
+refusal_agrees s ceiling (PartTooLarge index size) consumed = refl
+refusal_agrees s ceiling (FixedHeaderChecksum stored computed) consumed = refl
+refusal_agrees s ceiling (VariableHeaderChecksum stored computed) consumed = refl
+refusal_agrees s ceiling (PartChecksum index stored computed) consumed = refl
+refusal_agrees s ceiling (MessageTooLarge size limit) consumed = refl
+refusal_agrees s ceiling (NoRoom short) consumed = refl
+refusal_agrees s ceiling (BadTable rule position) consumed = refl
+refusal_agrees s ceiling (RetiredType found) consumed = refl
+
 agrees : (s : List ℕ) (ceiling : ℕ) (d : Decoded) → AgreesWith (paper d) (tells s (count s) ceiling (paper d))
-unfolding tells refusal_tells more_tells
-agrees s ceiling (Read packet consumed) = refl
-agrees s ceiling More = either_waits (length s <? fixed_header_size) (length s <? headers (count s)) fixed_header_size (headers (count s)) (whole s (count s))
-agrees s ceiling (Refused (Signature found) consumed) = refl
-agrees s ceiling (Refused (UnknownType found) consumed) = refl
-agrees s ceiling (Refused (TooManyParts n) consumed) = refl
-agrees s ceiling (Refused (PartTooLarge index size) consumed) = refl
-agrees s ceiling (Refused (FixedHeaderChecksum stored computed) consumed) = refl
-agrees s ceiling (Refused (VariableHeaderChecksum stored computed) consumed) = refl
-agrees s ceiling (Refused (PartChecksum index stored computed) consumed) = refl
-agrees s ceiling (Refused (MessageTooLarge size limit) consumed) = refl
-agrees s ceiling (Refused (NoRoom short) consumed) = refl
-agrees s ceiling (Refused (BadTable rule position) consumed) = refl
-agrees s ceiling (Refused (RetiredType found) consumed) = refl
+unfolding tells more_tells
+agrees s ceiling (Ok (Some read)) = refl
+agrees s ceiling (Ok None) = either_waits (length s <? fixed_header_size) (length s <? headers (count s)) fixed_header_size (headers (count s)) (whole s (count s))
+agrees s ceiling (Err refused) = refusal_agrees s ceiling refused.error refused.consumed
 
 pub why_agrees_with_the_reader : WhyAgreesWithTheReader
 why_agrees_with_the_reader s mode limit ceiling table d after r decodes e =

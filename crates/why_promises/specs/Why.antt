@@ -11,9 +11,8 @@ use Rattle.words.specs.Word.{word}
 use Rattle.packet.specs.Layout.{count, headers, whole}
 use Rattle.packet.specs.declared.Mode.{Mode}
 use Rattle.packet_read.specs.Reading.{Limits, limited, order, room_lines}
-use Rattle.packet_answer.specs.Paper.{paper}
+use Rattle.packet_answer.specs.Paper.{Decoded, paper}
 use Rattle.packet_read.specs.Statement.{Decodes}
-use Rattle.packet_answer.specs.declared.Decoded.{Decoded}
 use Rattle.wire.specs.Layout.{max_size}
 use Rattle.wire_read.specs.Reading.{input_lines}
 use Rattle.wire_read.specs.Plain.{accepts, plain}

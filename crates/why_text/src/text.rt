@@ -13,6 +13,7 @@ use finding::{Field, Finding, Wanted};
 use finding_name::write_name;
 use numerals::write_decimal;
 
+// This and `put_field` are as in `listing`, where they are private: only what a caller needs is public and promised.
 fn put_bytes(out: &mut [u8], at: usize, bytes: &[u8]) -> usize
     requires { at + length bytes.now ≤ length out.old }
     ensures { Wrote bytes.now at out.old result out.new }
