@@ -9,14 +9,14 @@ use Rattle.packet.proofs.Back.{error_of, error_back, packet_of, packet_back}
 use Rattle.packet_answer.specs.Paper.{Decoded, paper}
 
 abbrev pub back : Answer → Decoded
-back (accepted taken fields) = Ok (Some record { packet = packet_of fields; consumed = taken; })
+back (accepted taken fields) = Ok (Some record { packet = packet_of fields; consumed = taken })
 back more = Ok None
-back (refused number values taken) = Err record { error = error_of number values; consumed = taken; }
+back (refused number values taken) = Err record { error = error_of number values; consumed = taken }
 
 pub paper_back_lem : (r : Decoded) → back (paper r) ≡ r
-paper_back_lem (Ok (Some read)) = λ i. Ok (Some record { packet = packet_back read.packet i; consumed = read.consumed; })
+paper_back_lem (Ok (Some read)) = λ i. Ok (Some record { packet = packet_back read.packet i; consumed = read.consumed })
 paper_back_lem (Ok None) = refl
-paper_back_lem (Err refusal) = λ i. Err record { error = error_back refusal.error i; consumed = refusal.consumed; }
+paper_back_lem (Err refusal) = λ i. Err record { error = error_back refusal.error i; consumed = refusal.consumed }
 
 -- two answers that mean the same are the same
 pub paper_injective : (r r' : Decoded) → paper r ≡ paper r' → r ≡ r'

@@ -34,7 +34,7 @@ written_is_guarded mode type flags id area table out n after tail limits lent r 
     let p : Packet = record { packet_type = type; flags = flags; id = id; parts = length (parts_of area table) } in
     let ok : Valid m = given_valid mode type flags id area table out n after flags_fit id_fits told in
     let same = (written_is_lent mode type flags id area table out n after tail limits lent r filled flags_fit id_fits told roomy held read).0 in
-    let read-so : Decodes s limits lent (Ok (Some record { packet = p; consumed = n; })) filled = rw same at read in
+    let read-so : Decodes s limits lent (Ok (Some record { packet = p; consumed = n })) filled = rw same at read in
     let as-wire : s ≡ wire m ++ tail = ap (λ (l : List ℕ). l ++ tail) (written_bytes mode type flags id area table out n after told) in
     let counted : count s ≡ length (parts_of area table) = ap count as-wire ∙ is_count m tail ok in
     let there : has_variable_header (type_number type) (length (parts_of area table)) ≡ true =

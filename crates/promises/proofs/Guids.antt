@@ -91,7 +91,7 @@ why_cause s p FieldCount (some, inr (h, less)) = too_few h some less
 
 pub parse_reason : ParseReason
 parse_reason s p reason other told = (
-  (λ e. subst (Why s p) e (cause_why s p reason (walk_cause s p reason (parses_run s (Err record { position = p; reason = reason; }) told)))),
+  (λ e. subst (Why s p) e (cause_why s p reason (walk_cause s p reason (parses_run s (Err record { position = p; reason = reason }) told)))),
   (λ why. decides_one (reasons s p) reason other told.1 (cause_decides s p other (why_cause s p other why))),
 )
 
@@ -101,7 +101,7 @@ without_plus_as_before s r g none told =
     ((λ e. now_before s g (exactly.0 e)), (λ text. exactly.1 (before_now s g none text)))
 
 pub plus_refused : PlusRefused
-plus_refused s g p reason text told = refused_at_plus s g p reason text (parses_run s (Err record { position = p; reason = reason; }) told)
+plus_refused s g p reason text told = refused_at_plus s g p reason text (parses_run s (Err record { position = p; reason = reason }) told)
 
 -- the field of one digit
 one_digit : (b : ℕ) → digit_of b ≤ 15 → IsField (b ∷ []) (value 0 (b ∷ []))

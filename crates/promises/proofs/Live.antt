@@ -76,7 +76,7 @@ reading_live_is_archive_but_24 s bytes ceiling table archive live archived after
   λ so.
       let answer : reading s (limited Live bytes ceiling table) ≡ refuse 24 (retired_type ∷ []) =
       reading_is s (count s) (limited Live bytes ceiling table) refl ∙ retired_answer s _ so in
-      by_one (Err record { error = RetiredType retired_type; consumed = 0; }) table (record {
+      by_one (Err record { error = RetiredType retired_type; consumed = 0 }) table (record {
         answer = sym answer;
         tables = ap (λ (a : Answer). afterwards a (entries s) table) (sym answer);
       }),

@@ -100,7 +100,7 @@ module _ (s table : List ℕ) (n : ℕ) (there : whole s n ≤ length s) (roomy 
 
 -- what an accepted packet says of its parts, and what its table holds
 module _ (s : List ℕ) (limits : Limits) (table : List ℕ) (packet : Packet) (consumed : ℕ) (after : List ℕ)
-    (read : Decodes s limits table (Ok (Some record { packet = packet; consumed = consumed; })) after) where
+    (read : Decodes s limits table (Ok (Some record { packet = packet; consumed = consumed })) after) where
   all : Acceptable s limits × (consumed ≡ consumedOf s) × (fields_of packet ≡ fields s)
   all = (acceptance s limits).1 consumed (fields_of packet) (sym read.answer)
 
@@ -152,8 +152,8 @@ written_is_lent mode type flags id area table out n after tail limits lent r fil
     let p : Packet = record { packet_type = type; flags = flags; id = id; parts = length (parts_of area table) } in
     let back = written_reads mode type flags id area table out n after told tail limits flags_fit id_fits held in
     let ok : Valid _ = given_valid mode type flags id area table out n after flags_fit id_fits told in
-    let same : r ≡ Ok (Some record { packet = p; consumed = n; }) = paper_injective r (Ok (Some record { packet = p; consumed = n; })) (read.answer ∙ back.0) in
-    let read-so : Decodes s limits lent (Ok (Some record { packet = p; consumed = n; })) filled = rw same at read in
+    let same : r ≡ Ok (Some record { packet = p; consumed = n }) = paper_injective r (Ok (Some record { packet = p; consumed = n })) (read.answer ∙ back.0) in
+    let read-so : Decodes s limits lent (Ok (Some record { packet = p; consumed = n })) filled = rw same at read in
     let parts = parts_are_lent s limits lent p n filled roomy read-so in (
       same,
       λ i h.

@@ -114,31 +114,31 @@ unsigned = header 0 1 zeros 0 ++ bytes_of 8 (checksum (header packet_signature 1
 abbrev retyped : List ℕ
 retyped = header packet_signature 2 zeros 0 ++ bytes_of 8 (checksum (header packet_signature 1 zeros 0))
 
-sent_read : Decodes sent nothing [] (Ok (Some record { packet = ack 0 0 0 0; consumed = 36; })) []
+sent_read : Decodes sent nothing [] (Ok (Some record { packet = ack 0 0 0 0; consumed = 36 })) []
 unfolding sealed Word.bytes_of Word.word Decide.first_from Polynomial.step Polynomial.steps Polynomial.fold_byte Polynomial.fold Layout.taken_before Reading.fixed_lines Reading.count_lines Reading.variable_lines Reading.size_lines Reading.part_lines Reading.room_lines Reading.order Reading.reading Entries.entries_from
 sent_read = record { answer = refl; tables = refl }
 
-nine_read : Decodes altered_in_nine nothing [] (Ok (Some record { packet = ack 0x2743_e501 0x7892_6597 0x81 0; consumed = 36; })) []
+nine_read : Decodes altered_in_nine nothing [] (Ok (Some record { packet = ack 0x2743_e501 0x7892_6597 0x81 0; consumed = 36 })) []
 unfolding sealed Word.bytes_of Word.word Decide.first_from Polynomial.step Polynomial.steps Polynomial.fold_byte Polynomial.fold Layout.taken_before Reading.fixed_lines Reading.count_lines Reading.variable_lines Reading.size_lines Reading.part_lines Reading.room_lines Reading.order Reading.reading Entries.entries_from
 nine_read = record { answer = refl; tables = refl }
 
-multiple_read : Decodes altered_by_multiple nothing [] (Ok (Some record { packet = ack 0xa356_8ef0 0xc98a_670b 3 0; consumed = 36; })) []
+multiple_read : Decodes altered_by_multiple nothing [] (Ok (Some record { packet = ack 0xa356_8ef0 0xc98a_670b 3 0; consumed = 36 })) []
 unfolding sealed Word.bytes_of Word.word Decide.first_from Polynomial.step Polynomial.steps Polynomial.fold_byte Polynomial.fold Layout.taken_before Reading.fixed_lines Reading.count_lines Reading.variable_lines Reading.size_lines Reading.part_lines Reading.room_lines Reading.order Reading.reading Entries.entries_from
 multiple_read = record { answer = refl; tables = refl }
 
-unguarded_read : Decodes unguarded nothing [] (Ok (Some record { packet = ack 0 0 0 0; consumed = 36; })) []
+unguarded_read : Decodes unguarded nothing [] (Ok (Some record { packet = ack 0 0 0 0; consumed = 36 })) []
 unfolding sealed Word.bytes_of Word.word Decide.first_from Polynomial.step Polynomial.steps Polynomial.fold_byte Polynomial.fold Layout.taken_before Reading.fixed_lines Reading.count_lines Reading.variable_lines Reading.size_lines Reading.part_lines Reading.room_lines Reading.order Reading.reading Entries.entries_from
 unguarded_read = record { answer = refl; tables = refl }
 
-unguarded_altered_read : Decodes unguarded_altered nothing [] (Ok (Some record { packet = ack 1 0 0 0; consumed = 36; })) []
+unguarded_altered_read : Decodes unguarded_altered nothing [] (Ok (Some record { packet = ack 1 0 0 0; consumed = 36 })) []
 unfolding sealed Word.bytes_of Word.word Decide.first_from Polynomial.step Polynomial.steps Polynomial.fold_byte Polynomial.fold Layout.taken_before Reading.fixed_lines Reading.count_lines Reading.variable_lines Reading.size_lines Reading.part_lines Reading.room_lines Reading.order Reading.reading Entries.entries_from
 unguarded_altered_read = record { answer = refl; tables = refl }
 
-unsigned_refused : Decodes unsigned nothing [] (Err record { error = Signature 0; consumed = 0; }) []
+unsigned_refused : Decodes unsigned nothing [] (Err record { error = Signature 0; consumed = 0 }) []
 unfolding sealed Word.bytes_of Word.word Decide.first_from Polynomial.step Polynomial.steps Polynomial.fold_byte Polynomial.fold Layout.taken_before Reading.fixed_lines Reading.count_lines Reading.variable_lines Reading.size_lines Reading.part_lines Reading.room_lines Reading.order Reading.reading Entries.entries_from
 unsigned_refused = record { answer = refl; tables = refl }
 
-retyped_refused : Decodes retyped nothing [] (Err record { error = RetiredType 2; consumed = 0; }) []
+retyped_refused : Decodes retyped nothing [] (Err record { error = RetiredType 2; consumed = 0 }) []
 unfolding sealed Word.bytes_of Word.word Decide.first_from Polynomial.step Polynomial.steps Polynomial.fold_byte Polynomial.fold Layout.taken_before Reading.fixed_lines Reading.count_lines Reading.variable_lines Reading.size_lines Reading.part_lines Reading.room_lines Reading.order Reading.reading Entries.entries_from
 retyped_refused = record { answer = refl; tables = refl }
 
@@ -172,9 +172,9 @@ damage_happens =
 
 -- damage after which the packet is still read is not named
 unnamed : (Altered : List ℕ → List ℕ → Stretch → ℕ → ℕ → Type 0) (s t : List ℕ) (p q : Packet) (part : Stretch) (at run : ℕ)
-    → Decodes s nothing [] (Ok (Some record { packet = p; consumed = 36; })) [] → Decodes t nothing [] (Ok (Some record { packet = q; consumed = 36; })) [] → Altered s t part at run → NamedWhere Altered → ⊥
+    → Decodes s nothing [] (Ok (Some record { packet = p; consumed = 36 })) [] → Decodes t nothing [] (Ok (Some record { packet = q; consumed = 36 })) [] → Altered s t part at run → NamedWhere Altered → ⊥
 unnamed Altered s t p q part at run whole damaged hit wrong =
-    not_taken t nothing.mode part (paper (Ok (Some record { packet = q; consumed = 36; }))) (wrong s t nothing [] [] p 36 [] (Ok (Some record { packet = q; consumed = 36; })) [] part at run whole hit damaged).0
+    not_taken t nothing.mode part (paper (Ok (Some record { packet = q; consumed = 36 }))) (wrong s t nothing [] [] p 36 [] (Ok (Some record { packet = q; consumed = 36 })) [] part at run whole hit damaged).0
 
 pub sixty_five_are_not_named : SixtyFiveAreNamed → ⊥
 unfolding sealed Word.bytes_of Word.word Polynomial.step Polynomial.steps Polynomial.fold_byte Polynomial.fold BitRuns.bits BitRuns.bits_of
@@ -267,7 +267,7 @@ eight_bytes_are_not_unseen wrong =
 pub not_always_by_5 : AlwaysBy5 → ⊥
 unfolding sealed Word.bytes_of Word.word Polynomial.step Polynomial.steps Polynomial.fold_byte Polynomial.fold
 not_always_by_5 wrong =
-    let named = wrong sent unsigned nothing [] (ack 0 0 0 0) 36 [] (Err record { error = Signature 0; consumed = 0; }) [] 0 32 sent_read (bytes_hit sent unsigned fixed_header 0 4 (record {
+    let named = wrong sent unsigned nothing [] (ack 0 0 0 0) 36 [] (Err record { error = Signature 0; consumed = 0 }) [] 0 32 sent_read (bytes_hit sent unsigned fixed_header 0 4 (record {
       bytes_before_lem = small sent refl;
       bytes_after = small unsigned refl;
       few = omega arith;
@@ -287,7 +287,7 @@ not_always_by_5 wrong =
 pub not_named_without_24 : NamedWithout24 → ⊥
 unfolding sealed Word.bytes_of Word.word Polynomial.step Polynomial.steps Polynomial.fold_byte Polynomial.fold
 not_named_without_24 wrong =
-    let named = wrong sent retyped nothing [] (ack 0 0 0 0) 36 [] (Err record { error = RetiredType 2; consumed = 0; }) [] 32 8 sent_read (bytes_hit sent retyped fixed_header 4 1 (record {
+    let named = wrong sent retyped nothing [] (ack 0 0 0 0) 36 [] (Err record { error = RetiredType 2; consumed = 0 }) [] 32 8 sent_read (bytes_hit sent retyped fixed_header 4 1 (record {
       bytes_before_lem = small sent refl;
       bytes_after = small retyped refl;
       few = omega arith;
@@ -339,7 +339,7 @@ pub acceptance_does_not_leave_tables : AcceptanceLeavesTables → ⊥
 unfolding Word.bytes_of Word.word Decide.first_from Polynomial.step Polynomial.steps Polynomial.fold_byte Polynomial.fold Layout.taken_before Reading.fixed_lines Reading.count_lines Reading.variable_lines Reading.size_lines Reading.part_lines Reading.room_lines Reading.order Reading.reading Entries.entries_from
 acceptance_does_not_leave_tables wrong =
     let packet : Packet = record { packet_type = Plain; flags = record { 0 = 0 }; id = record { w0 = 0; w1 = 0; w2 = 0; w3 = 0 }; parts = 1 } in
-    let left = wrong (header packet_signature 0 zeros 1 ++ bytes_of 8 0 ++ bytes_of 4 0 ++ bytes_of 8 0 ++ bytes_of 8 0) (limited Archive 56 1 (7 ∷ 7 ∷ 7 ∷ [])) (7 ∷ 7 ∷ 7 ∷ []) (Ok (Some record { packet = packet; consumed = 56; })) (56 ∷ 0 ∷ 0 ∷ [])
+    let left = wrong (header packet_signature 0 zeros 1 ++ bytes_of 8 0 ++ bytes_of 4 0 ++ bytes_of 8 0 ++ bytes_of 8 0) (limited Archive 56 1 (7 ∷ 7 ∷ 7 ∷ [])) (7 ∷ 7 ∷ 7 ∷ []) (Ok (Some record { packet = packet; consumed = 56 })) (56 ∷ 0 ∷ 0 ∷ [])
     (record { answer = refl; tables = refl }) in
     let z : ◌≡◌ {A = ℕ} 56 7 = ap (λ (l : List ℕ). get_or l 0 0) left in
     omega arith

@@ -102,7 +102,7 @@ abbrev pub NamedWhere : (List ℕ → List ℕ → Stretch → ℕ → ℕ → T
 NamedWhere Altered =
     (s t : List ℕ) (limits : Limits) (table lent : List ℕ) (packet : Packet) (consumed : ℕ) (filled : List ℕ)
     (r : Decoded) (after : List ℕ) (part : Stretch) (at run : ℕ)
-    → Decodes s limits table (Ok (Some record { packet = packet; consumed = consumed; })) filled
+    → Decodes s limits table (Ok (Some record { packet = packet; consumed = consumed })) filled
     → Altered s t part at run
     → Decodes t limits lent r after
     → Names t limits.mode part (paper r) × (after ≡ lent)
@@ -126,7 +126,7 @@ NamedUnder mode ceiling =
     (s t : List ℕ) (limit : ℕ) (table lent : List ℕ) (packet : Packet) (consumed : ℕ) (filled : List ℕ)
     (r : Decoded) (after : List ℕ) (part : Stretch) (at run : ℕ)
     → length table ≡ length lent
-    → Decodes s (limited mode limit ceiling table) table (Ok (Some record { packet = packet; consumed = consumed; })) filled
+    → Decodes s (limited mode limit ceiling table) table (Ok (Some record { packet = packet; consumed = consumed })) filled
     → Hit s t part at run
     → Decodes t (limited mode limit ceiling lent) lent r after
     → Names t mode part (paper r) × (after ≡ lent)
@@ -147,5 +147,5 @@ pub record DamageHappens : Type 0 where
   pub sent : List ℕ
   pub received : List ℕ
   pub packet : Packet
-  pub read : Decodes sent nothing [] (Ok (Some record { packet = packet; consumed = fixed_header_size; })) []
+  pub read : Decodes sent nothing [] (Ok (Some record { packet = packet; consumed = fixed_header_size })) []
   pub hit : Hit sent received fixed_header 71 1

@@ -25,7 +25,7 @@ abbrev pub SumsAreTold : Type 0
 SumsAreTold =
     (s : List ℕ) (limits : Limits) (table : List ℕ) (packet : Packet) (consumed : ℕ) (filled : List ℕ)
     → limits.room ≡ room table
-    → Decodes s limits table (Ok (Some record { packet = packet; consumed = consumed; })) filled
+    → Decodes s limits table (Ok (Some record { packet = packet; consumed = consumed })) filled
     → (i : ℕ) → i < count s
     → sum_at filled i ≡ word 8 s (fixed_header_size + size_bytes * count s + checksum_bytes * i)
 

@@ -35,14 +35,14 @@ AcceptedBytes =
 -- p is the length, none begins with these and the byte at p.
 abbrev pub ParsePlace : Type 0
 ParsePlace =
-    (s : List ℕ) (p : ℕ) (reason : Reason) → Parses s (Err record { position = p; reason = reason; })
+    (s : List ℕ) (p : ℕ) (reason : Reason) → Parses s (Err record { position = p; reason = reason })
     → (p ≤ length s) × Mendable Accepted (take p s) × (p < length s → Mendable Accepted (take (suc p) s) → ⊥)
 
 -- The place is byte 35 at the latest, and each byte before it is a dash or a hex digit, one column wide: a caret under
 -- the text stands as many columns in.
 abbrev pub PlaceShows : Type 0
 PlaceShows =
-    (s : List ℕ) (p : ℕ) (reason : Reason) → Parses s (Err record { position = p; reason = reason; })
+    (s : List ℕ) (p : ℕ) (reason : Reason) → Parses s (Err record { position = p; reason = reason })
     → (p ≤ 35) × ((i : ℕ) → i < p → (get_or s i 0 ≡ dash) ⊎ (digit_of (get_or s i 0) ≤ 15))
 
 -- what each reason says of the place
@@ -57,7 +57,7 @@ Why s p FieldCount =
 -- where it refuses, it gives exactly the reason that is true of the place
 abbrev pub ParseReason : Type 0
 ParseReason =
-    (s : List ℕ) (p : ℕ) (reason other : Reason) → Parses s (Err record { position = p; reason = reason; })
+    (s : List ℕ) (p : ℕ) (reason other : Reason) → Parses s (Err record { position = p; reason = reason })
     → (reason ≡ other → Why s p other) × (Why s p other → reason ≡ other)
 
 -- A text in which no field begins with a plus is accepted, and read, as by document 01.
@@ -69,7 +69,7 @@ WithoutPlusAsBefore =
 -- Any other text that document 01 accepted is refused at its first plus, as a byte that is not a hex digit.
 abbrev pub PlusRefused : Type 0
 PlusRefused =
-    (s : List ℕ) (g : Guid) (p : ℕ) (reason : Reason) → IsTextBefore s g → Parses s (Err record { position = p; reason = reason; })
+    (s : List ℕ) (g : Guid) (p : ℕ) (reason : Reason) → IsTextBefore s g → Parses s (Err record { position = p; reason = reason })
     → (reason ≡ NotHex) × (get_or s p 0 ≡ plus) × ((i : ℕ) → i < p → (get_or s i 0 ≡ plus → ⊥))
 
 -- There are such texts: the premise of the first of these two is needed.

@@ -37,7 +37,7 @@ ReadingLiveIsArchiveBut24 =
     (s : List ℕ) (bytes ceiling : ℕ) (table : List ℕ) (archive live : Decoded) (archived after : List ℕ)
     → Decodes s (limited Archive bytes ceiling table) table archive archived
     → Decodes s (limited Live bytes ceiling table) table live after
-    → (Retired s → (live ≡ Err record { error = RetiredType retired_type; consumed = 0; }) × (after ≡ table))
+    → (Retired s → (live ≡ Err record { error = RetiredType retired_type; consumed = 0 }) × (after ≡ table))
     × ((Retired s → ⊥) → (live ≡ archive) × (after ≡ archived))
 
 -- a packet to write that is an SslAck, and whose table 18 does not refuse: it has whole entries, and none outside the

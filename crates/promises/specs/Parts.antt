@@ -36,7 +36,7 @@ abbrev pub PartsAreLent : Type 0
 PartsAreLent =
     (s : List ℕ) (limits : Limits) (table : List ℕ) (packet : Packet) (consumed : ℕ) (filled : List ℕ)
     → limits.room ≡ room table
-    → Decodes s limits table (Ok (Some record { packet = packet; consumed = consumed; })) filled
+    → Decodes s limits table (Ok (Some record { packet = packet; consumed = consumed })) filled
     → (packet.parts ≡ count s)
     × ((i : ℕ) → i < count s
     → (is_null s i ≡ true → (null_at filled i ≡ true) × LendsFront s filled i)
@@ -66,7 +66,7 @@ WrittenIsLent =
     → limits.room ≡ room lent
     → Held (given type flags id area table) limits
     → Decodes (take n after ++ tail) limits lent r filled
-    → (r ≡ Ok (Some record { packet = record { packet_type = type; flags = flags; id = id; parts = length (parts_of area table) }; consumed = n; }))
+    → (r ≡ Ok (Some record { packet = record { packet_type = type; flags = flags; id = id; parts = length (parts_of area table) }; consumed = n }))
     × ((i : ℕ) → i < length (parts_of area table)
     → Lends (take n after ++ tail) filled i (get_or (parts_of area table) i null))
 

@@ -98,7 +98,7 @@ abbrev pub AlwaysBy5 : Type 0
 AlwaysBy5 =
     (s t : List ℕ) (limits : Limits) (table : List ℕ) (packet : Packet) (consumed : ℕ) (filled : List ℕ)
     (r : Decoded) (after : List ℕ) (at run : ℕ)
-    → Decodes s limits table (Ok (Some record { packet = packet; consumed = consumed; })) filled
+    → Decodes s limits table (Ok (Some record { packet = packet; consumed = consumed })) filled
     → Hit s t fixed_header at run
     → Decodes t limits table r after
     → paper r ≡ refuse 5 (fixed_sum t ∷ checksum (fixed_fields t) ∷ [])
@@ -108,7 +108,7 @@ abbrev pub NamedWithout24 : Type 0
 NamedWithout24 =
     (s t : List ℕ) (limits : Limits) (table : List ℕ) (packet : Packet) (consumed : ℕ) (filled : List ℕ)
     (r : Decoded) (after : List ℕ) (at run : ℕ)
-    → Decodes s limits table (Ok (Some record { packet = packet; consumed = consumed; })) filled
+    → Decodes s limits table (Ok (Some record { packet = packet; consumed = consumed })) filled
     → Hit s t fixed_header at run
     → Decodes t limits table r after
     → Names t Archive fixed_header (paper r)

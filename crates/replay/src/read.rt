@@ -56,7 +56,8 @@ fn appended(number: u64, last: u8) -> u64 {
 }
 
 pub(crate) fn number(text: &[u8]) -> u64 {
-    text.iter().fold(0, |number, byte| appended(number, digit(*byte)))
+    text.iter()
+        .fold(0, |number, byte| appended(number, digit(*byte)))
 }
 
 fn pair(high: u8, low: u8) -> u8 {
@@ -94,7 +95,10 @@ pub(crate) fn words_into(out: &mut [u64], text: &[u8]) -> usize {
         return 0;
     }
     let mut count = 0;
-    for (word, part) in out.iter_mut().zip(text.split_inclusive(|byte| *byte == b',')) {
+    for (word, part) in out
+        .iter_mut()
+        .zip(text.split_inclusive(|byte| *byte == b','))
+    {
         *word = number(part.strip_suffix(b",").unwrap_or(part));
         count += 1;
     }

@@ -78,7 +78,11 @@ pub(crate) fn parts<W: Write>(to: &mut W, table: &[u64], count: usize) {
 
 // Whether the words from `from` on hold what they were filled with.
 pub(crate) fn kept_words<W: Write>(to: &mut W, table: &[u64], from: usize) {
-    if table.iter().skip(from).any(|word| *word != 0xa5a5_a5a5_a5a5_a5a5) {
+    if table
+        .iter()
+        .skip(from)
+        .any(|word| *word != 0xa5a5_a5a5_a5a5_a5a5)
+    {
         text(to, b" touched");
     }
 }
