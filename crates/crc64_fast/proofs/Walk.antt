@@ -1,4 +1,4 @@
--- The walk: a word's lowest bytes stored one by one, the first stretch loaded alone, and what the output holds after each word.
+-- The walk: the first stretch loaded alone, and what the output holds after each word.
 -- The register's laws are those of crc64_fast's Turn. Assumes nothing.
 use mathlib.Core.Path.{◌≡◌, refl, sym, ap, ap₂, ◌∙◌, subst}
 use mathlib.Core.Bool.{Bool, true, false, true≢false}

@@ -8,7 +8,7 @@ use varint::read::{Varint, read_varint};
 // A payload that is whole.
 #[derive(Clone, Copy)]
 struct Payload {
-    // The varint that it begins with, or 0 where it is none.
+    // The varint that it begins with, or 0 where it begins with none.
     value: u64,
     // Where what comes behind that varint begins.
     content: usize,

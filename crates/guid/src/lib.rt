@@ -1,5 +1,5 @@
 // YTsaurus GUIDs after guid.rs: sixteen wire bytes, four little-endian words, two halves. A GUID is held as its four
-// words, so that the enum of an answer can carry it; the wire bytes are read and written at the border. Its text is in
+// words, so that an answer can carry it; the wire bytes are read and written at the border. Its text is in
 // `guid_text`.
 #![tactic(auto)]
 

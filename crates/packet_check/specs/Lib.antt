@@ -1,4 +1,4 @@
--- The definitions of the writer's checks: the order, what the enums mean in document 01's numbers, and what each
+-- The definitions of the writer's checks: the order, what the answers mean in document 01's numbers, and what each
 -- function promises; beside them what private functions hand on.
 pub mod Checks
 pub mod Paper

@@ -79,7 +79,7 @@ paper_not_taken e = refused_not_taken (paper e) (paper_refuses e)
 pub paper_keeps : (e : WireError) (ws xs : List ℕ) → afterwards (paper e) ws xs ≡ xs
 paper_keeps e ws xs = not_taken_keeps (paper e) ws xs (paper_not_taken e)
 
--- back to an answer enum of two cases: what was accepted, or the refusal
+-- back to a result: what was accepted, or the refusal
 abbrev pub refusal_back : {R : Type 0} → (ℕ → List ℕ → R) → (WireError → R) → Answer → R
 refusal_back got stopped (accepted n fields) = got n fields
 refusal_back got stopped more = stopped (BadTable 0 0)
