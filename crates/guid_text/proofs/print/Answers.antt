@@ -1,5 +1,4 @@
--- `print` meets its contract: each field over the tail behind the fields before it.
--- Assumes nothing.
+-- Each field over the tail behind the fields before it. Assumes nothing.
 use Prim.Native.Nat.{ℕ, ◌+◌, ◌≤◌, ◌<◌}
 use mathlib.Core.Path.{◌≡◌, sym, ◌∙◌, ap}
 use mathlib.Core.List.{List, ◌++◌}
@@ -12,15 +11,10 @@ use Rattle.guid_text.specs.Stages.{dashed}
 use Rattle.guid_text.specs.Text.{text_of}
 use Rattle.words.proofs.LentLaws.{back, lent_over}
 use Rattle.guid_text.proofs.TextLaws.{length_text, length_dashed, text_in_fields}
-use borrow.Author.Rules.{rules}
-use Rattle.guid_text.proofs.print.Statement.{statement}
-use Rattle.guid_text.proofs.print.Tie as tie
+use Rattle.guid_text.proofs.print.Goals as goal
 
-text_size-requires : tie.Need-text_size-needed-requires
-text_size-requires c κs = search rules
-
-returns : tie.Need-returns-then-out-needed
-returns c =
+pub returns-then-out-needed : goal.returns-then-out-needed
+returns-then-out-needed c =
     let start = c in
     let g = start.args.id in
     let xs : List ℕ = start.args.out.now in
@@ -29,80 +23,68 @@ returns c =
     let tested = lt-ltb (length xs) (length (text_of g)) short in
     (rw (tested, size), rw tested)
 
-put_dashed-requires : tie.Need-put_dashed-second-requires
-put_dashed-requires c κs = omega (arith, length_text c.args.id, c.text_size-needed.ensures, c.if-out-needed.false)
+pub put_dashed-second-requires : goal.put_dashed-second-requires
+put_dashed-second-requires c = omega (arith, length_text c.args.id, c.text_size-needed.ensures, c.if-out-needed.false)
 
-sub-put_dashed : tie.Need-slice_bounds-put_dashed-count
-sub-put_dashed c = omega (arith, length_text c.args.id, c.text_size-needed.ensures, c.if-out-needed.false, c.put_dashed-second.ensures.0, c.put_dashed-second.auto.out)
+pub slice_bounds-put_dashed-count : goal.slice_bounds-put_dashed-count
+slice_bounds-put_dashed-count c = omega (arith, length_text c.args.id, c.text_size-needed.ensures, c.if-out-needed.false, c.put_dashed-second.ensures.0, c.put_dashed-second.auto.out)
 
-part-put_dashed-start : tie.Need-slice_bounds-put_dashed-start
-part-put_dashed-start c = omega (arith, length_text c.args.id, c.text_size-needed.ensures, c.if-out-needed.false, c.put_dashed-second.ensures.0, c.put_dashed-second.auto.out)
+pub slice_bounds-put_dashed-start : goal.slice_bounds-put_dashed-start
+slice_bounds-put_dashed-start c = omega (arith, length_text c.args.id, c.text_size-needed.ensures, c.if-out-needed.false, c.put_dashed-second.ensures.0, c.put_dashed-second.auto.out)
 
-part-put_dashed-end : tie.Need-slice_bounds-put_dashed-end
-part-put_dashed-end c = search rules
-
-put_dashed-requires-2 : tie.Need-put_dashed-requires
-put_dashed-requires-2 c κs =
+pub put_dashed-requires : goal.put_dashed-requires
+put_dashed-requires c =
     let put-dashed = c.put_dashed-second in
     omega (arith, length_text c.args.id, c.text_size-needed.ensures, c.if-out-needed.false, put-dashed.ensures.0, put-dashed.auto.out)
 
-add-third : tie.Need-overflow_add-third
-add-third c =
+pub overflow_add-third : goal.overflow_add-third
+overflow_add-third c =
     let put-dashed = c.put_dashed-second in
     omega (arith, length_text c.args.id, c.text_size-needed.ensures, c.if-out-needed.false, put-dashed.ensures.0, put-dashed.auto.out, c.put_dashed.ensures.0, c.put_dashed.auto.out)
 
-sub-put_dashed-2 : tie.Need-slice_bounds-put_dashed-count-2
-sub-put_dashed-2 c =
+pub slice_bounds-put_dashed-count-2 : goal.slice_bounds-put_dashed-count-2
+slice_bounds-put_dashed-count-2 c =
     let put-dashed = c.put_dashed-second in
     omega (arith, length_text c.args.id, c.text_size-needed.ensures, c.if-out-needed.false, put-dashed.ensures.0, put-dashed.auto.out, c.put_dashed.ensures.0, c.put_dashed.auto.out)
 
-part-put_dashed-start-2 : tie.Need-slice_bounds-put_dashed-start-2
-part-put_dashed-start-2 c =
+pub slice_bounds-put_dashed-start-2 : goal.slice_bounds-put_dashed-start-2
+slice_bounds-put_dashed-start-2 c =
     let put-dashed = c.put_dashed-second in
     omega (arith, length_text c.args.id, c.text_size-needed.ensures, c.if-out-needed.false, put-dashed.ensures.0, put-dashed.auto.out, c.put_dashed.ensures.0, c.put_dashed.auto.out)
 
-part-put_dashed-end-2 : tie.Need-slice_bounds-put_dashed-end-2
-part-put_dashed-end-2 c = search rules
-
-put_dashed-requires-3 : tie.Need-put_dashed-requires-2
-put_dashed-requires-3 c κs =
+pub put_dashed-requires-2 : goal.put_dashed-requires-2
+put_dashed-requires-2 c =
     let put-dashed = c.put_dashed-second in
     let put-dashed2 = c.put_dashed in
     omega (arith, length_text c.args.id, c.text_size-needed.ensures, c.if-out-needed.false, put-dashed.ensures.0, put-dashed.auto.out, put-dashed2.ensures.0, put-dashed2.auto.out)
 
-add-last : tie.Need-overflow_add-last
-add-last c =
+pub overflow_add-last : goal.overflow_add-last
+overflow_add-last c =
     let put-dashed = c.put_dashed-second in
     let put-dashed2 = c.put_dashed in
     omega (arith, length_text c.args.id, c.text_size-needed.ensures, c.if-out-needed.false, put-dashed.ensures.0, put-dashed.auto.out, put-dashed2.ensures.0, put-dashed2.auto.out, c.put_dashed-2.ensures.0, c.put_dashed-2.auto.out)
 
-sub-put : tie.Need-slice_bounds-put-count
-sub-put c =
+pub slice_bounds-put-count : goal.slice_bounds-put-count
+slice_bounds-put-count c =
     let put-dashed = c.put_dashed-second in
     let put-dashed2 = c.put_dashed in
     omega (arith, length_text c.args.id, c.text_size-needed.ensures, c.if-out-needed.false, put-dashed.ensures.0, put-dashed.auto.out, put-dashed2.ensures.0, put-dashed2.auto.out, c.put_dashed-2.ensures.0, c.put_dashed-2.auto.out)
 
-part-put-start : tie.Need-slice_bounds-put-start
-part-put-start c =
+pub slice_bounds-put-start : goal.slice_bounds-put-start
+slice_bounds-put-start c =
     let put-dashed = c.put_dashed-second in
     let put-dashed2 = c.put_dashed in
     omega (arith, length_text c.args.id, c.text_size-needed.ensures, c.if-out-needed.false, put-dashed.ensures.0, put-dashed.auto.out, put-dashed2.ensures.0, put-dashed2.auto.out, c.put_dashed-2.ensures.0, c.put_dashed-2.auto.out)
 
-part-put-end : tie.Need-slice_bounds-put-end
-part-put-end c = search rules
-
-put-requires : tie.Need-put-requires
-put-requires c κs =
+pub put-requires : goal.put-requires
+put-requires c =
     let put-dashed = c.put_dashed-second in
     let put-dashed2 = c.put_dashed in
     let put-dashed3 = c.put_dashed-2 in
     omega (arith, length_text c.args.id, c.text_size-needed.ensures, c.if-out-needed.false, put-dashed.ensures.0, put-dashed.auto.out, put-dashed2.ensures.0, put-dashed2.auto.out, put-dashed3.ensures.0, put-dashed3.auto.out)
 
-same_length : tie.Need-shape_of-out
-same_length c = search rules
-
-returns-2 : tie.Need-returns
-returns-2 c =
+pub returns : goal.returns
+returns c =
     let start = c in
     let text_size = c.text_size-needed in
     let g = start.args.id in
@@ -132,27 +114,3 @@ returns-2 c =
     let e0 : s0 ≡ over (f3 ++ f2 ++ f1 ++ f0) xs = lent_over (f3 ++ f2 ++ f1) f0 xs s1 p0.new.out (p3.result + p2.result + p1.result) e1 m1 (omega (arith, p3.ensures.0, p2.ensures.0, p1.ensures.0)) p0.ensures.1 in
     let tested = le-ltb (length xs) (length (text_of g)) room in
     (rw (tested, size), rw tested (e0 ∙ ap (λ (l : List ℕ). over l xs) (text_in_fields g)))
-
-pub print_spec : {M : Type 1} → statement M
-print_spec =
-    tie.close
-    (tie.spec
-    text_size-requires
-    returns
-    put_dashed-requires
-    sub-put_dashed
-    part-put_dashed-start
-    part-put_dashed-end
-    put_dashed-requires-2
-    add-third
-    sub-put_dashed-2
-    part-put_dashed-start-2
-    part-put_dashed-end-2
-    put_dashed-requires-3
-    add-last
-    sub-put
-    part-put-start
-    part-put-end
-    put-requires
-    same_length
-    returns-2)
