@@ -23,66 +23,6 @@ returns-then-out-needed c =
     let tested = lt-ltb (length xs) (length (text_of g)) short in
     (rw (tested, size), rw tested)
 
-pub put_dashed-second-requires : goal.put_dashed-second-requires
-put_dashed-second-requires c = omega (arith, length_text c.args.id, c.text_size-needed.ensures, c.if-out-needed.false)
-
-pub slice_bounds-put_dashed-count : goal.slice_bounds-put_dashed-count
-slice_bounds-put_dashed-count c = omega (arith, length_text c.args.id, c.text_size-needed.ensures, c.if-out-needed.false, c.put_dashed-second.ensures.0, c.put_dashed-second.auto.out)
-
-pub slice_bounds-put_dashed-start : goal.slice_bounds-put_dashed-start
-slice_bounds-put_dashed-start c = omega (arith, length_text c.args.id, c.text_size-needed.ensures, c.if-out-needed.false, c.put_dashed-second.ensures.0, c.put_dashed-second.auto.out)
-
-pub put_dashed-requires : goal.put_dashed-requires
-put_dashed-requires c =
-    let put-dashed = c.put_dashed-second in
-    omega (arith, length_text c.args.id, c.text_size-needed.ensures, c.if-out-needed.false, put-dashed.ensures.0, put-dashed.auto.out)
-
-pub overflow_add-third : goal.overflow_add-third
-overflow_add-third c =
-    let put-dashed = c.put_dashed-second in
-    omega (arith, length_text c.args.id, c.text_size-needed.ensures, c.if-out-needed.false, put-dashed.ensures.0, put-dashed.auto.out, c.put_dashed.ensures.0, c.put_dashed.auto.out)
-
-pub slice_bounds-put_dashed-count-2 : goal.slice_bounds-put_dashed-count-2
-slice_bounds-put_dashed-count-2 c =
-    let put-dashed = c.put_dashed-second in
-    omega (arith, length_text c.args.id, c.text_size-needed.ensures, c.if-out-needed.false, put-dashed.ensures.0, put-dashed.auto.out, c.put_dashed.ensures.0, c.put_dashed.auto.out)
-
-pub slice_bounds-put_dashed-start-2 : goal.slice_bounds-put_dashed-start-2
-slice_bounds-put_dashed-start-2 c =
-    let put-dashed = c.put_dashed-second in
-    omega (arith, length_text c.args.id, c.text_size-needed.ensures, c.if-out-needed.false, put-dashed.ensures.0, put-dashed.auto.out, c.put_dashed.ensures.0, c.put_dashed.auto.out)
-
-pub put_dashed-requires-2 : goal.put_dashed-requires-2
-put_dashed-requires-2 c =
-    let put-dashed = c.put_dashed-second in
-    let put-dashed2 = c.put_dashed in
-    omega (arith, length_text c.args.id, c.text_size-needed.ensures, c.if-out-needed.false, put-dashed.ensures.0, put-dashed.auto.out, put-dashed2.ensures.0, put-dashed2.auto.out)
-
-pub overflow_add-last : goal.overflow_add-last
-overflow_add-last c =
-    let put-dashed = c.put_dashed-second in
-    let put-dashed2 = c.put_dashed in
-    omega (arith, length_text c.args.id, c.text_size-needed.ensures, c.if-out-needed.false, put-dashed.ensures.0, put-dashed.auto.out, put-dashed2.ensures.0, put-dashed2.auto.out, c.put_dashed-2.ensures.0, c.put_dashed-2.auto.out)
-
-pub slice_bounds-put-count : goal.slice_bounds-put-count
-slice_bounds-put-count c =
-    let put-dashed = c.put_dashed-second in
-    let put-dashed2 = c.put_dashed in
-    omega (arith, length_text c.args.id, c.text_size-needed.ensures, c.if-out-needed.false, put-dashed.ensures.0, put-dashed.auto.out, put-dashed2.ensures.0, put-dashed2.auto.out, c.put_dashed-2.ensures.0, c.put_dashed-2.auto.out)
-
-pub slice_bounds-put-start : goal.slice_bounds-put-start
-slice_bounds-put-start c =
-    let put-dashed = c.put_dashed-second in
-    let put-dashed2 = c.put_dashed in
-    omega (arith, length_text c.args.id, c.text_size-needed.ensures, c.if-out-needed.false, put-dashed.ensures.0, put-dashed.auto.out, put-dashed2.ensures.0, put-dashed2.auto.out, c.put_dashed-2.ensures.0, c.put_dashed-2.auto.out)
-
-pub put-requires : goal.put-requires
-put-requires c =
-    let put-dashed = c.put_dashed-second in
-    let put-dashed2 = c.put_dashed in
-    let put-dashed3 = c.put_dashed-2 in
-    omega (arith, length_text c.args.id, c.text_size-needed.ensures, c.if-out-needed.false, put-dashed.ensures.0, put-dashed.auto.out, put-dashed2.ensures.0, put-dashed2.auto.out, put-dashed3.ensures.0, put-dashed3.auto.out)
-
 pub returns : goal.returns
 returns c =
     let start = c in
