@@ -1,5 +1,6 @@
 // The second walk: the tables are filled. It goes over the same fields as the first, which has shown that there is
-// room.
+// room. `start` and `end` stay beside the input, here and below: the tables tell places in the whole input. A field's
+// number and an error's code are the sender's numbers, which no enum can list.
 ghost use Rattle.std.specs.Prelude.{◌≡◌, ◌≤◌, ◌<◌, ◌+◌, ◌*◌, [], ◌∷◌, length};
 ghost use Rattle.std.proofs.lemmas.List.Edits.{sets};
 ghost use Rattle.words.specs.Decide.{pick, ◌=?◌};

@@ -22,9 +22,6 @@ same_test : (a b c d : ℕ) → (a < b → c < d) → (b ≤ a → d ≤ c) → 
 same_test a b c d f g =
     ⊎_elim (λ (h : b ≤ a). le-ltb a b h ∙ sym (le-ltb c d (g h))) (λ (h : a < b). lt-ltb a b h ∙ sym (lt-ltb c d (f h))) (le_or_gt b a)
 
-pub outside_far : (size offset n : ℕ) → n ≤ size → ((size - n) <? offset) ≡ outside size offset n
-outside_far size offset n h = same_test (size - n) offset size (offset + n) (λ far. omega arith) (λ near. omega arith)
-
 -- A depth
 
 module _ (errors : List ℕ) (i : ℕ) where

@@ -7,11 +7,13 @@ use native.Mathlib.Omega.{arith}
 use borrow.Author.Tests.{lt-ltb, le-ltb, eq-eqb, ne_eqb}
 use Rattle.words.specs.Decide.{pick}
 use Rattle.words.proofs.DecideLaws.{pick_case}
-use Rattle.field.specs.Field.{number_at, type_at, stop_at, whole_field}
+use Rattle.field.specs.Field.{type_code, number_at, type_at, stop_at, whole_field}
 use Rattle.field.specs.Statement.{ReadsField}
 use Rattle.field.specs.declared.field.Field.{Field}
+use Rattle.field.specs.declared.field.WireType.{WireType}
+use Rattle.field.specs.declared.field.WireType.TheVariants.{Varint, Bytes}
 use Rattle.std.specs.declared.option.Option.TheVariants.{Some, None}
-use Rattle.field.proofs.FieldLaws.{stop_far, whole_before}
+use Rattle.field.proofs.FieldLaws.{type_one, stop_far, whole_before}
 use Rattle.error_tree.specs.Message.{wire_type, whole_in, fields_in, fields}
 use Rattle.error_tree.specs.Statement.{TypesField, ReadsKnown}
 
@@ -23,15 +25,15 @@ module _ (known number : ℕ) where
   type_any h = rw (lt-ltb known number h)
 
   module _ (low : number ≤ known) where
-    pub type_code : known ≡ 4 → number ≡ 1 → TypesField known number (Some 0)
+    pub type_number : known ≡ 4 → number ≡ 1 → TypesField known number (Some Varint)
     unfolding wire_type
-    type_code k n = (rw (le-ltb known number low, k, n), omega arith)
+    type_number k n = (rw (le-ltb known number low, k, n), omega arith)
 
-    pub type_other : known ≡ 4 → (number ≡ 1 → ⊥) → TypesField known number (Some 2)
+    pub type_other : known ≡ 4 → (number ≡ 1 → ⊥) → TypesField known number (Some Bytes)
     unfolding wire_type
     type_other k n = (rw (le-ltb known number low, k, ne_eqb number 1 n), omega arith)
 
-    pub type_bytes : (known ≡ 4 → ⊥) → TypesField known number (Some 2)
+    pub type_bytes : (known ≡ 4 → ⊥) → TypesField known number (Some Bytes)
     unfolding wire_type
     type_bytes k = (rw (le-ltb known number low, ne_eqb known 4 k), omega arith)
 
@@ -49,21 +51,21 @@ module _ (known : ℕ) (s : List ℕ) (at end : ℕ) (f : Field) (all : ReadsFie
   unfolding whole_in
   known_any any = let h : wire_type known (number_at s at) ≡ 8 = rw all.1 at any in held (rw (all.0, h))
 
-  module _ (own : ℕ) (types : TypesField known f.number (Some own)) where
-    own_is : wire_type known (number_at s at) ≡ own
+  module _ (own : WireType) (types : TypesField known f.number (Some own)) where
+    own_is : wire_type known (number_at s at) ≡ type_code own
     own_is = rw all.1 at types.0
 
-    own_not : own ≡ 8 → ⊥
-    own_not = let low : own < 8 = types.1 in omega arith
+    own_not : type_code own ≡ 8 → ⊥
+    own_not = let low : type_code own < 8 = types.1 in omega arith
 
     pub known_own : own ≡ f.wire → ReadsKnown known s at end (Some f)
     unfolding whole_in
-    known_own h = held (rw (all.0, own_is, ne_eqb own 8 own_not, eq-eqb own (type_at s at) (h ∙ all.2)))
+    known_own h = held (rw (all.0, own_is, ne_eqb (type_code own) 8 own_not, eq-eqb (type_code own) (type_at s at) (ap type_code h ∙ all.2)))
 
     pub known_other : (own ≡ f.wire → ⊥) → ReadsKnown known s at end None
     unfolding whole_in
     known_other h =
-        rw (all.0, own_is, ne_eqb own 8 own_not, ne_eqb own (type_at s at) (λ e. h (e ∙ sym all.2)))
+        rw (all.0, own_is, ne_eqb (type_code own) 8 own_not, ne_eqb (type_code own) (type_at s at) (λ e. h (type_one own f.wire (e ∙ sym all.2))))
 
 -- The list of the fields: what is whole at `at` is the first of them, and where nothing is there is none
 

@@ -12,6 +12,7 @@ use Rattle.words.proofs.Unique.{equal_to_one}
 use Rattle.words.proofs.AnswerLaws.{refused_not_accepted}
 use Rattle.words.proofs.PaperLaws.{no_room_of, no_room_back}
 use Rattle.std.specs.declared.option.Option.TheVariants.{Some, None}
+use Rattle.field.proofs.FieldLaws.{type_one}
 use Rattle.error_tree.specs.Paper.{paper}
 use Rattle.error_tree.specs.Statement.{ReadsKnown}
 use Rattle.error_tree.specs.declared.refusal.ErrorRefusal.{ErrorRefusal}
@@ -56,7 +57,7 @@ pub read_known_unique : (known : ℕ) (s : List ℕ) (at end : ℕ) → OneResul
 read_known_unique known s at end (Some f) (Some g) p q =
     λ i. Some record {
       number = (p.1 ∙ sym q.1) i;
-      wire = (p.2 ∙ sym q.2) i;
+      wire = type_one f.wire g.wire (p.2 ∙ sym q.2) i;
       value = (p.3 ∙ sym q.3) i;
       content = (p.4 ∙ sym q.4) i;
       stop = (p.5 ∙ sym q.5) i;

@@ -1,4 +1,5 @@
-// Front to back, each field finished with all inside it before the next begins: document 02's "as met".
+// Front to back, each field finished with all inside it before the next begins: document 02's "as met". `start` and
+// `end` stay beside the input, here and below: refusals tell places in the whole input.
 ghost use Rattle.std.specs.Prelude.{◌≤◌, length};
 ghost use Rattle.error_tree.specs.Statement.{Lies};
 ghost use Rattle.error_walk.specs.Stages.{NextField, WalksAttribute, WalksEntry, WalksDictionary, WalksInside};

@@ -1,6 +1,7 @@
 // Which rows of the attributes an error has. Where the rows stand in the errors' order, as every known writer leaves
 // them, an error's are the run before those of the error behind it, and the cursor `till` goes back with the errors;
-// else all rows are looked through.
+// else all rows are looked through. `sorted`, here and below, is a fact of the table, found out once, and no step that a
+// caller picks.
 ghost use Rattle.std.specs.Prelude.{◌≡◌, ◌+◌};
 ghost use Rattle.words.specs.Decide.{pick};
 ghost use Rattle.error_write.specs.Stages.{TellsSorted, Pending, Runs};

@@ -1,5 +1,6 @@
 // How many bytes errors take. The entries are taken from the last to the first, with a sum for each depth, so that
-// each is seen once. Sums stop at 2^64 - 1.
+// each is seen once. Sums stop at 2^64 - 1. Area, errors and attributes stay three parameters, here and in
+// `encode_error`: so the exported functions lend them, the C interface.
 ghost use Rattle.std.specs.Prelude.{◌≡◌, ◌+◌, ◌*◌, ◌<◌, ◌≤◌, length};
 ghost use Rattle.error_tree.specs.Reading.{error_entry, attribute_entry};
 ghost use Rattle.error_table.specs.Table.{errors_in};

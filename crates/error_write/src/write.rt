@@ -1,4 +1,5 @@
-// The bytes of errors, each entry's written at its own stretch of the output.
+// The bytes of errors, each entry's written at its own stretch of the output. `out`, `tables` and `entry` stay three
+// parameters, here and below: the output is cut anew for each call, and a struct of them would be built anew with it.
 ghost use Rattle.std.specs.Prelude.{◌≡◌, ◌++◌, ◌+◌, ◌*◌, ◌<◌, ◌≤◌, length};
 ghost use Rattle.words.specs.Buffer.{over, stretch};
 ghost use Rattle.error_tree.specs.Reading.{error_entry, attribute_entry};

@@ -1,12 +1,12 @@
 -- Laws of payloads and fields: one for each way in which reading one ends. Assumes nothing.
-use mathlib.Core.Path.{◌≡◌, refl}
+use mathlib.Core.Path.{◌≡◌, refl, sym, ◌∙◌, ap, subst}
 use mathlib.Core.Bool.{Bool, true, false, ◌&&◌}
-use mathlib.Core.List.{List}
+use mathlib.Core.List.{List, [], ◌∷◌}
 use Prim.Native.Nat.{ℕ, ◌+◌, ◌-◌, ◌/◌, ◌%◌, ◌<◌, ◌≤◌}
 use native.Mathlib.Omega.{arith}
 use lib.ListN.{length}
 use borrow.Author.Tests.{lt-ltb, le-ltb, ne_eqb}
-use Rattle.words.specs.Decide.{◌=?◌}
+use Rattle.words.specs.Decide.{decide, ◌⇒◌, ◌=?◌}
 use Rattle.words.proofs.DecideLaws.{pick_case}
 use Rattle.varint.specs.Varint.{varint_at, varint_end, whole_varint}
 use Rattle.varint.specs.Statement.{ReadsVarint}
@@ -14,10 +14,27 @@ use Rattle.varint.specs.declared.read.Varint.{Varint}
 use Rattle.std.specs.declared.option.Option.{Option}
 use Rattle.std.specs.declared.option.Option.TheVariants.{Some, None}
 use Rattle.varint.proofs.VarintLaws.{size_least, whole_end}
-use Rattle.field.specs.Field.{payload_value, payload_content, payload_stop, whole_payload, tag_at, type_at, stop_at, whole_field}
-use Rattle.field.specs.Stages.{ReadsPayload, ReadsFixed}
+use Rattle.field.specs.Field.{type_code, payload_value, payload_content, payload_stop, whole_payload, tag_at, type_at, stop_at, whole_field}
+use Rattle.field.specs.Stages.{TypesTag, ReadsPayload, ReadsFixed}
 use Rattle.field.specs.Statement.{ReadsField}
 use Rattle.field.specs.declared.field.Payload.{Payload}
+use Rattle.field.specs.declared.field.WireType.{WireType}
+use Rattle.field.specs.declared.field.WireType.TheVariants as Wire
+
+-- A wire type is told by its number
+
+type_of : ℕ → WireType
+type_of n = decide (n =? 0 ⇒ Wire.Varint ∷ n =? 1 ⇒ Wire.Fixed64 ∷ n =? 2 ⇒ Wire.Bytes ∷ []) Wire.Fixed32
+
+type_back : (w : WireType) → type_of (type_code w) ≡ w
+unfolding type_of
+type_back Wire.Varint = refl
+type_back Wire.Fixed64 = refl
+type_back Wire.Bytes = refl
+type_back Wire.Fixed32 = refl
+
+pub type_one : (w w' : WireType) → type_code w ≡ type_code w' → w ≡ w'
+type_one w w' e = sym (type_back w) ∙ ap type_of e ∙ type_back w'
 
 -- A payload that begins with a varint, where none is whole
 
@@ -96,23 +113,31 @@ module _ (s : List ℕ) (at end : ℕ) (tag : Varint) (reads : ReadsVarint s at 
         rw (reads.0, lt-ltb (tag_at s at) 0x1_0000_0000 (omega arith), le-ltb 7 (tag_at s at) (omega arith))
 
     module _ (some : 8 ≤ tag.value) where
-      pub field_cut : ReadsPayload (tag.value % 8) s tag.next end None → ReadsField s at end None
+      payload_cut : ReadsPayload (tag.value % 8) s tag.next end None → ReadsField s at end None
       unfolding whole_field
-      field_cut h =
+      payload_cut h =
           let v : tag.value ≡ varint_at s at = reads.1 in
           let there : tag.next ≡ varint_end s at = reads.2 in
           let cut : whole_payload (tag.value % 8) s tag.next end ≡ false = h in
           rw (reads.0, lt-ltb (tag_at s at) 0x1_0000_0000 (omega arith), lt-ltb 7 (tag_at s at) (omega arith), ← v, ← there, cut)
 
-      pub field_whole : (p : Payload) → ReadsPayload (tag.value % 8) s tag.next end (Some p) → ReadsField s at end (Some record { number = tag.value / 8; wire = tag.value % 8; value = p.value; content = p.content; stop = p.stop })
+      pub field_typeless : TypesTag tag.value None → ReadsField s at end None
+      field_typeless other = payload_cut (no_type s tag.next end (tag.value % 8) other.0 other.1 other.2 other.3)
+
+      pub field_cut : (w : WireType) → TypesTag tag.value (Some w) → ReadsPayload (type_code w) s tag.next end None → ReadsField s at end None
+      field_cut w types h = payload_cut (subst (λ (t : ℕ). ReadsPayload t s tag.next end None) types h)
+
+      pub field_whole : (w : WireType) → TypesTag tag.value (Some w) → (p : Payload) → ReadsPayload (type_code w) s tag.next end (Some p)
+          → ReadsField s at end (Some record { number = tag.value / 8; wire = w; value = p.value; content = p.content; stop = p.stop })
       unfolding whole_field
-      field_whole p all =
+      field_whole w types p held =
+          let all : ReadsPayload (tag.value % 8) s tag.next end (Some p) = subst (λ (t : ℕ). ReadsPayload t s tag.next end (Some p)) types held in
           let v : tag.value ≡ varint_at s at = reads.1 in
           let there : tag.next ≡ varint_end s at = reads.2 in
           let far : (at < tag.next) × (tag.next ≤ end) × (end ≤ length s) = next_within s at end tag reads in (
             rw (reads.0, lt-ltb (tag_at s at) 0x1_0000_0000 (omega arith), lt-ltb 7 (tag_at s at) (omega arith), ← v, ← there) all.0,
             rw v,
-            rw v,
+            types ∙ ap (λ (t : ℕ). t % 8) v,
             rw (← v, ← there) all.1,
             rw (← v, ← there) all.2,
             rw (← v, ← there) all.3,

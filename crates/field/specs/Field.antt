@@ -4,6 +4,15 @@
 use Rattle.std.specs.Prelude.{ℕ, ◌+◌, ◌/◌, ◌%◌, Bool, false, ◌&&◌, List, [], ◌∷◌}
 use Rattle.words.specs.Decide.{◌⇒◌, decide, ◌<?◌, ◌=?◌}
 use Rattle.varint.specs.Varint.{varint_at, varint_end, whole_varint}
+use Rattle.field.specs.declared.field.WireType.{WireType}
+use Rattle.field.specs.declared.field.WireType.TheVariants.{Varint, Fixed64, Bytes, Fixed32}
+
+-- the number of a wire type
+abbrev pub type_code : WireType → ℕ
+type_code Varint = 0
+type_code Fixed64 = 1
+type_code Bytes = 2
+type_code Fixed32 = 5
 
 -- A payload at `at` of a wire type: the varint that it begins with, what comes behind that varint, where it ends
 

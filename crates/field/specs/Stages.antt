@@ -1,8 +1,14 @@
--- What only private contracts cite, and nobody has to believe: the content of a field whose tag has been read. Assumes
--- nothing.
-use Rattle.std.specs.Prelude.{ℕ, ◌+◌, ◌<◌, ◌≤◌, ◌≡◌, true, false, List, Option, Some, None}
-use Rattle.field.specs.Field.{payload_value, payload_content, payload_stop, whole_payload}
+-- What only private contracts cite, and nobody has to believe: the wire type and the content of a field whose tag has
+-- been read. Assumes nothing.
+use Rattle.std.specs.Prelude.{ℕ, ◌+◌, ◌%◌, ◌<◌, ◌≤◌, ◌≡◌, ◌≢◌, true, false, List, Option, Some, None}
+use Rattle.field.specs.Field.{type_code, payload_value, payload_content, payload_stop, whole_payload}
 use Rattle.field.specs.declared.field.Payload.{Payload}
+use Rattle.field.specs.declared.field.WireType.{WireType}
+
+-- the wire type of a tag; or none of the four
+abbrev pub TypesTag : ℕ → Option WireType → Type 0
+TypesTag tag (Some wire) = type_code wire ≡ tag % 8
+TypesTag tag None = (tag % 8 ≢ 0) × (tag % 8 ≢ 1) × (tag % 8 ≢ 2) × (tag % 8 ≢ 5)
 
 abbrev pub ReadsPayload : ℕ → List ℕ → ℕ → ℕ → Option Payload → Type 0
 ReadsPayload type s at end (Some p) =

@@ -1,9 +1,20 @@
-// One field: its tag, and its payload by wire type.
+// One field: its tag, and its payload by wire type. `at` and `end` stay beside the input, here and below: a field tells
+// places in the whole input. Its number is the sender's, and any number is read.
 ghost use Rattle.std.specs.Prelude.{◌≤◌};
-ghost use Rattle.field.specs.Stages.{ReadsPayload, ReadsFixed};
+ghost use Rattle.field.specs.Field.{type_code};
+ghost use Rattle.field.specs.Stages.{TypesTag, ReadsPayload, ReadsFixed};
 ghost use Rattle.field.specs.Statement.{ReadsField};
 
 use varint::read::{Varint, read_varint};
+
+// How a payload lies on the wire.
+#[derive(Clone, Copy, PartialEq, Eq)]
+pub enum WireType {
+    Varint,
+    Fixed64,
+    Bytes,
+    Fixed32,
+}
 
 // A payload that is whole.
 #[derive(Clone, Copy)]
@@ -20,11 +31,24 @@ struct Payload {
 #[derive(Clone, Copy)]
 pub struct Field {
     pub number: u64,
-    pub wire: u64,
+    pub wire: WireType,
     // The payload's varint, where what comes behind that begins, and where the field ends.
     pub value: u64,
     pub content: usize,
     pub stop: usize,
+}
+
+// The wire type of a tag: those of groups and the two that stand for nothing are none.
+fn wire_type(tag: u64) -> Option<WireType>
+    ensures { TypesTag tag result }
+{
+    match tag % 8 {
+        0 => Some(WireType::Varint),
+        1 => Some(WireType::Fixed64),
+        2 => Some(WireType::Bytes),
+        5 => Some(WireType::Fixed32),
+        _ => None,
+    }
 }
 
 // A payload of wire type 0: a varint.
@@ -70,16 +94,15 @@ fn read_fixed(at: usize, end: usize, size: usize) -> Option<Payload>
 }
 
 // The payload of a wire type at `at`, where it ends by `end`.
-fn read_payload(input: &[u8], at: usize, end: usize, wire: u64) -> Option<Payload>
+fn read_payload(input: &[u8], at: usize, end: usize, wire: WireType) -> Option<Payload>
     requires { at ≤ end }
-    ensures { ReadsPayload wire input.now at end result }
+    ensures { ReadsPayload (type_code wire) input.now at end result }
 {
     match wire {
-        0 => read_number(input, at, end),
-        1 => read_fixed(at, end, 8),
-        2 => read_bytes(input, at, end),
-        5 => read_fixed(at, end, 4),
-        _ => None,
+        WireType::Varint => read_number(input, at, end),
+        WireType::Fixed64 => read_fixed(at, end, 8),
+        WireType::Bytes => read_bytes(input, at, end),
+        WireType::Fixed32 => read_fixed(at, end, 4),
     }
 }
 
@@ -94,14 +117,15 @@ pub fn read_field(input: &[u8], at: usize, end: usize) -> Option<Field>
     if tag < 8 {
         return None;
     }
+    let wire = wire_type(tag)?;
     let Payload {
         value,
         content,
         stop,
-    } = read_payload(input, next, end, tag % 8)?;
+    } = read_payload(input, next, end, wire)?;
     Some(Field {
         number: tag / 8,
-        wire: tag % 8,
+        wire,
         value,
         content,
         stop,

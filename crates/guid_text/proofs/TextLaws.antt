@@ -1,25 +1,15 @@
 -- Laws of a GUID's text: its length, its fields with their dashes, and how they are written. Assumes nothing.
-use mathlib.Core.Path.{◌≡◌, sym}
-use mathlib.Core.List.{List, [], ◌∷◌, ◌++◌, append_assoc}
-use Prim.Native.Nat.{ℕ, suc, ◌+◌, ◌<◌, ◌≤◌}
+use mathlib.Core.Path.{◌≡◌}
+use mathlib.Core.List.{[], ◌∷◌, ◌++◌, append_assoc}
+use Prim.Native.Nat.{ℕ, ◌+◌, ◌≤◌}
 use native.Mathlib.Omega.{arith}
-use lib.ListN.{length, get_or, set, drop, length-append}
-use lib.Seq.{drop-cons, append_snoc, set-append_seam}
-use Rattle.words.specs.Buffer.{over}
+use lib.ListN.{length, length-append}
 use Rattle.numerals.specs.Statement.{hex}
 use Rattle.numerals.proofs.SpelledLaws.{length_spelled_most}
 use Rattle.guid.specs.declared.Guid.{Guid}
 use Rattle.guid_text.specs.Fields.{dash}
 use Rattle.guid_text.specs.Stages.{dashed}
 use Rattle.guid_text.specs.Text.{text_of}
-
--- the digits and a dash behind them
-pub dash_stored : (ws xs now : List ℕ) (count : ℕ) → count ≡ length ws → now ≡ over ws xs → length ws < length xs
-    → set now count dash ≡ over (ws ++ dash ∷ []) xs
-dash_stored ws xs now count e wrote room =
-    let long : length (ws ++ dash ∷ []) ≡ suc (length ws) = simp length-append (omega arith) in
-    rw (e, wrote, drop-cons xs (length ws) 0 room, set-append_seam ws (get_or xs (length ws) 0) (drop (suc (length ws)) xs) dash, long)
-    (sym (append_snoc ws dash (drop (suc (length ws)) xs)))
 
 -- the whole text: its length, and its fields with their dashes
 pub length_dashed : (w : ℕ) → length (dashed w) ≡ length (hex w) + 1

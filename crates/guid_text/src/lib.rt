@@ -37,6 +37,7 @@ pub fn text_size(id: Guid) -> usize
 }
 
 // The text, over the front of `out`, and how many bytes that is, or 17: Rust's `Display`.
+#[tactic(auto, using(crate::proofs::TextLaws::length_text))]
 pub fn print(id: Guid, out: &mut [u8]) -> Result<usize, NoRoom>
     ensures { Prints id out.old result out.new }
 {

@@ -1,5 +1,6 @@
 // Lists each file that its arguments name, behind a line with the name: inputs at the edges of `list`, with the output
-// that each must have, for a gate that runs a program on one standard input only.
+// that each must have, for a gate that runs a program on one standard input only. Its twin `why_samples` stays: only a
+// program's `main` has the runtime that opens the files, and one function for both would be generic over it.
 #![tactic(auto)]
 
 use std::env::FillError;

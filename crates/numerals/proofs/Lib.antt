@@ -1,5 +1,4 @@
 -- The laws of spelled numbers, which the proofs of this crate and of those above cite.
 pub mod Cases
-pub mod ByteLaws
 pub mod SpelledLaws
 pub mod Unique

@@ -79,7 +79,7 @@ pub fn write_decimal(out: &mut [u8], number: u64) -> usize
     write_digits::<10, 20>(out, number, decimal_size(number))
 }
 
-// The value of a hex digit in either case, 16 for any other byte. A `match` on the byte compiles to a read-only table,
+// The value of a hex digit in either case, 16 for any other byte: no conversion, since it refuses nothing. A `match` on the byte compiles to a read-only table,
 // where comparisons would be branches that no processor foresees.
 #[tactic(auto, unfolding(words::specs::Text::digit_of))]
 pub fn digit_value(byte: u8) -> u32

@@ -13,7 +13,8 @@ use packet::ENTRY_WORDS;
 use std::io::Write;
 use words::outcome::Outcome;
 
-// The modes by the numbers of the exported functions.
+// The modes by the numbers of the exported functions: the C interface, which takes any number, here and below. Writer,
+// mode and line stay three parameters: each case takes them once, and a struct would be taken apart there.
 const ARCHIVE: u64 = 0;
 
 const LIVE: u64 = 1;
@@ -106,6 +107,7 @@ fn part<W: Write>(to: &mut W, line: &[u8]) {
     say_part(to, cut(&space, 0, count), front(&parts, words), index);
 }
 
+// Flags are bits and no kind: a number.
 fn flags(code: u64) -> u16 {
     (code % 0x1_0000) as u16
 }

@@ -1,5 +1,6 @@
 // Explains each file that its arguments name, behind a line with the name: the worked examples of `why`, every number
-// and every field, with the line that each must have, for a gate that runs a program on one standard input only.
+// and every field, with the line that each must have, for a gate that runs a program on one standard input only. Why
+// its twin `list_samples` stays is told there.
 #![tactic(auto)]
 
 use std::env::FillError;

@@ -6,7 +6,7 @@ use Prim.Native.Nat.{ℕ, ◌+◌, ◌*◌, ◌/◌, ◌<◌, ◌≤◌}
 use native.Mathlib.Omega.{arith}
 use lib.ListN.{length, get_or, set, length-append}
 use Rattle.words.specs.Buffer.{over}
-use Rattle.words.proofs.BufferLaws.{over_none, over_store, length_over}
+use Rattle.words.proofs.BufferLaws.{over_store}
 use Rattle.yson_token.specs.Token.{square, curly, end, punctuation}
 use Rattle.yson_token.proofs.TokenLaws.{mark_end}
 use Rattle.yson_grammar.specs.Grammar.{Token, Node, plain, attributed, Object, single, list, map, Items, more, last, mapped, Yson}
@@ -138,36 +138,9 @@ module _ (s : List ℕ) where
     pub coming : Coming s at rest
     pub holds : now ≡ over done before
 
-  pub filling_none : (start items : ℕ) (before : List ℕ) → Ready s start items (length before) → Filling start items start 0 before before
-  filling_none start items before r = record {
-    words = r.words;
-    done = [];
-    rest = r.words;
-    origin = r.coming;
-    sized = r.sized;
-    fits = r.fits;
-    joins = refl;
-    reached = refl;
-    coming = r.coming;
-    holds = sym (over_none before);
-  }
-
   module _ (start items at n : ℕ) (before now : List ℕ) (f : Filling start items at n before now) where
     left : n + length f.rest ≡ 4 * items
     left = omega (arith, f.reached, f.sized, ap length f.joins, length-append f.done f.rest)
-
-    pub filling_length : length now ≡ length before
-    filling_length = ap length f.holds ∙ length_over f.done before (omega (arith, left, f.reached, f.fits))
-
-    pub filling_end : 4 * items ≤ n → Fills s start items before now
-    filling_end all =
-        let none : f.rest ≡ [] = empty f.rest (omega (arith, left)) in
-        record {
-          words = f.words;
-          coming = f.origin;
-          sized = f.sized;
-          filled = f.holds ∙ ap (λ (l : List ℕ). over l before) (sym (append-nil f.done) ∙ ap (λ (l : List ℕ). f.done ++ l) (sym none) ∙ f.joins);
-        }
 
     module _ (more-to-come : n < 4 * items) where
       some : (i : Items s curly 63 at (length s)) × (entries i ≡ f.rest)

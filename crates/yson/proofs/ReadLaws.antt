@@ -218,12 +218,6 @@ module _ (s : List ℕ) where
             (x.0, omega (arith, x.1, length-append (entry one.is) (entries rest), item_length one.is, adds));
       }
 
-      pub items_shorter : get_or s e 0 ≡ 59 → length s - (e + 1) < length s - at
-      items_shorter first = omega (arith, one.later, inside s e 58 first)
-
-      pub items_few : n < e
-      items_few = omega (arith, passed.few, one.later)
-
   module _ (room at : ℕ) where
     pub listed_fails : (q : Fault) → (get_or s at 0 ≡ 93 → ⊥) → Reads s room node at (Err q) → ItemFails square room at q
     listed_fails q other inner around = item_node s at around room other ∙ inner.runs (square ∷ around)
@@ -269,9 +263,6 @@ module _ (s : List ℕ) where
         }
 
     module _ (k : Bracket) (paired : k ≡ square → ⊥) (other : get_or s at 0 ≡ closing k → ⊥) where
-      pub paired_fails : (q : Fault) → ReadsPair s room at (Err q) → ItemFails k room at q
-      paired_fails q inner around = inner.runs k paired other around
-
       as_item : {e : ℕ} (j : Bracket) → (j ≡ square → ⊥) → Pair s room at e → Item s j room at e
       as_item square wrong p = absurd (wrong refl)
       as_item curly wrong p = mapped p
@@ -285,9 +276,6 @@ module _ (s : List ℕ) where
       }
 
   -- The whole input.
-
-  pub whole_not : (q : Fault) → Reads s 64 node 0 (Err q) → ReadsWhole s (Err q)
-  whole_not q r = sym (r.runs [])
 
   pub whole_read : (x : Read) → Reads s 64 node 0 (Ok x) → x.end ≡ length s → ReadsWhole s (Ok x)
   whole_read x r all = rw all at r.derived

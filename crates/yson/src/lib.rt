@@ -1,6 +1,7 @@
 // YSON's binary form (document 02, A4): whether bytes are one node within 64 open brackets, where they fail, and
 // where the items of an outer map begin and end. Node, object, list and pairs call each other, and the remaining depth
-// falls.
+// falls. `at` and `depth` stay beside the input, here and below: refusals tell places in the whole input, and the depth
+// is the measure of the recursion.
 #![tactic(auto)]
 
 ghost use Rattle.std.specs.Prelude.{◌≡◌, ◌+◌, ◌<◌, ◌≤◌, length};
