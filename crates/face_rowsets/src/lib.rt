@@ -46,7 +46,7 @@ pub extern "C" fn cablefinch_encode_rowset(
     ensures { EncodesRowset area.now rows.now values.now out.old result
         out.new }
 {
-    wire_write::write::outcome(wire_write::write::encode_rowset(area, rows, values, out))
+    wire_check::size::outcome(wire_write::write::encode_rowset(area, rows, values, out))
 }
 
 // How many bytes the rowset of these tables has.

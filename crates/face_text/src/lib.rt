@@ -46,7 +46,7 @@ pub extern "C" fn cablefinch_write_text(
     ensures { WritesRowsetText area.now rows.now values.now out.old result
         out.new }
 {
-    wire_write::write::outcome(text_write::write::write_text(area, rows, values, out))
+    wire_check::size::outcome(text_write::write::write_text(area, rows, values, out))
 }
 
 // Reads a text into the two lent tables and the lent area.

@@ -27,7 +27,8 @@ const LINKED_WORDS: usize = 0x1_0000_0000_0000;
 // The bytes of the area whose pairs share neighbouring buckets.
 const BLOCK: u64 = 0x1_0000;
 
-// Whether two entries have one pair of offset and length.
+// Whether two entries have one pair of offset and length. An entry is its number, here and below, and each function
+// requires that the table has it: links are such numbers, so that a slice of the entry would not do.
 fn same_pair(values: &[u64], j: usize, i: usize) -> bool
     requires { (entry_words * j + entry_words ≤ length values.now)
         × (entry_words * i + entry_words ≤ length values.now) }

@@ -3,7 +3,8 @@ ghost use Rattle.pack_answer.specs.Statement.{IsBlob, IsStored, CutIs, AddsCappe
 
 use wire::kind::{Kind, kind_of};
 
-// Whether a value of this type is a blob.
+// Whether a value of this type is a blob. A type is its code, here and below: so it stands in the lent table (see
+// wire's `kind`).
 pub fn is_blob(code: u64) -> bool
     ensures { IsBlob code result }
 {

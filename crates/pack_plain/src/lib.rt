@@ -60,7 +60,8 @@ fn room_of(values: &[u64], i: usize) -> u64
     values[ENTRY_WORDS * i + 4]
 }
 
-// The lengths of the distinct pairs among the first n entries, at most 2^64-1.
+// The lengths of the distinct pairs among the first n entries, at most 2^64-1. No slice of these entries: `room`, and
+// with it the laws of packing, is told of the whole table and a count.
 fn room_before(values: &[u64], n: usize) -> u64
     requires { entry_words * n ≤ length values.now }
     ensures { result ≡ capped (room values.now n) }

@@ -1,5 +1,6 @@
 // The second walk, over a text that the first has found good and for which there is room: the tables and the area are
-// filled.
+// filled. The loops but that of `read_id` step by what they read, a line, a value or a blob's byte: no range counts
+// them.
 ghost use Rattle.std.specs.Prelude.{◌≡◌, ◌+◌, ◌≤◌, length};
 ghost use Rattle.text_form.specs.Walk.{capital_value};
 ghost use Rattle.text_read.specs.Stages.{HasNumber, ReadsId, HasLetter, ReadsLetter, ReadsHead};
@@ -19,7 +20,8 @@ pub(crate) struct Number {
     pub(crate) value: u64,
 }
 
-// Id, aggregate and type of a value, and where its content begins.
+// Id, aggregate and type of a value, and where its content begins. A type is its code, here and below: so it goes to
+// the lent table (see wire's `kind`).
 #[derive(Clone, Copy)]
 pub(crate) struct Head {
     pub(crate) next: usize,
@@ -142,7 +144,8 @@ fn read_word(text: &[u8], start: usize, kind: u64) -> u64
     eight_digits(text, start) * 4294967296 + eight_digits(text, start + 8)
 }
 
-// The value of a byte that is a hex digit, its letters capital. It has no test, for digits come as they will.
+// The value of a byte that is a hex digit, its letters capital. It has no test, for digits come as they will. That of
+// `numerals` answers for every byte, either case and none, by a test and a table: work that is not wanted here.
 fn digit_value(byte: u8) -> u8
     requires { capital_value byte ≤ 15 }
     ensures { result ≡ capital_value byte }
@@ -183,7 +186,8 @@ fn copy_units(text: &[u8], start: usize, area: &mut [u8], first: usize) -> Copie
     Copied { next: at, used }
 }
 
-// What stands behind a type's letter; a blob goes to the byte `used` of the area on.
+// What stands behind a type's letter; a blob goes to the byte `used` of the area on. The area is lent whole, here and
+// below: the entry names where in it the blob begins, so a slice from `used` on would need `used` beside it as well.
 fn read_payload(text: &[u8], at: usize, kind: u64, area: &mut [u8], used: usize) -> Payload
     requires { HasContent text.now at kind used area.old }
     ensures { ReadsContent text.now at kind used area.old area.new result }

@@ -43,6 +43,7 @@ fn head_size(id: u64, aggregate: u64) -> usize
     decimal_size(id) + 2 + flag(aggregate) as usize
 }
 
+// The type is its code: so it stands in the lent table (see wire's `kind`).
 fn value_size(area: &[u8], id: u64, kind: u64, aggregate: u64, bits: u64, length: u64) -> usize
     requires { (bad (lib.ListN.length area.now) id kind aggregate bits length ≡ false)
         × (lib.ListN.length (value_text area.now id kind aggregate bits length) < 2 ^ 64) }

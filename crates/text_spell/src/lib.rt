@@ -13,7 +13,8 @@ use wire::kind::{ANY, BOOLEAN, COMPOSITE, DOUBLE, INT64, NULL, STRING, UINT64};
 pub const WORD_DIGITS: usize = 16;
 
 // The letter of a type, 0 for a type that is not known. No `Option`: `letter_of` of the rows' form is a function to
-// bytes, and the clause is the equation with it. So it is with the functions below that answer 0 or 16.
+// bytes, and the clause is the equation with it. So it is with the functions below that answer 0 or 16. A type is its
+// code, here and below, as everywhere in rowsets (see wire's `kind`).
 #[tactic(auto, unfolding(text_form::specs::Form::letter_of))]
 pub fn letter(kind: u64) -> u8
     ensures { IsLetter kind result }

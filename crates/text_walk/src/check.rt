@@ -27,7 +27,8 @@ const ZEROS_AND_ONE: u64 = 0x3130_3030_3030_3030;
 // One value more than a row may have.
 const TOO_MANY_VALUES: u64 = MAX_VALUES_PER_ROW + 1;
 
-// The type that a value's head names, and where its content begins.
+// The type that a value's head names, and where its content begins. A type is its code, here and below: so it goes to
+// the lent table (see wire's `kind`).
 #[derive(Clone, Copy)]
 pub(crate) struct Head {
     pub(crate) next: usize,
@@ -59,7 +60,9 @@ pub(crate) struct Line {
     pub(crate) size: usize,
 }
 
-// The rest of an id whose digits so far spell `first`, and its colon.
+// The rest of an id whose digits so far spell `first`, and its colon. The text, where it goes on and `first` are
+// parameters of their own, here and in the two functions that hand them down: this one alone uses `first`. Each piece
+// requires that it begins within the text, which is lent whole: a refusal tells its place in the whole text.
 fn check_id(text: &[u8], start: usize, first: u64) -> Result<usize, BadPlace>
     requires { (start ≤ length text.now) × (first ≤ 65535) }
     ensures { IdChecks text.now start first result }
@@ -325,7 +328,8 @@ fn too_long() -> TextError
     })
 }
 
-// A blob's bytes, up to the tab or line feed behind them.
+// A blob's bytes, up to the tab or line feed behind them. This loop and that over the values of a line step by what
+// they read, one byte or several: no range counts them.
 fn check_units(text: &[u8], start: usize) -> Result<Blob, TextError>
     requires { start ≤ length text.now }
     ensures { UnitsCheck text.now start result }
@@ -402,7 +406,8 @@ fn check_scalar(text: &[u8], at: usize, kind: u64, size: usize) -> Result<Value,
     check_end(text, next, 0, size)
 }
 
-// A blob's bytes and the byte behind them; before the value the rowset has this size.
+// A blob's bytes and the byte behind them; before the value the rowset has this size. That the size keeps the limit is
+// required here and below, for no sum may wrap; a type for such a size would be taken apart at every sum.
 fn check_blob(text: &[u8], at: usize, size: usize) -> Result<Value, TextError>
     requires { (at ≤ length text.now) × (size ≤ max_size) }
     ensures { BlobChecks text.now at size result }

@@ -1,4 +1,5 @@
-// A text walked whole: how many rows, values and blob bytes it has, or what is met first.
+// A text walked whole: how many rows, values and blob bytes it has, or what is met first. The loop steps by a line at a
+// time: no range counts it.
 ghost use Rattle.text_walk.specs.Statement.{Counts};
 
 use super::check::{Line, check_line};

@@ -74,7 +74,8 @@ fn write_units(bytes: &[u8], out: &mut [u8]) -> usize
     at
 }
 
-// A value: its head, and what its kind has behind it.
+// A value: its head, and what its kind has behind it. The type is its code: so it stands in the lent table (see wire's
+// `kind`).
 fn write_value(
     area: &[u8],
     id: u64,
@@ -104,7 +105,8 @@ fn write_value(
     }
 }
 
-// The value whose entry begins at the word `k`.
+// The value whose entry begins at the word `k`. `wire_write` has a twin of this function and one of `write_rows`, and
+// says why.
 fn write_entry(area: &[u8], values: &[u64], k: usize, out: &mut [u8]) -> usize
     requires { (k + entry_words ≤ length values.now) × (bad_entry (length area.now) values.now k ≡ false)
         × (length (entry_text area.now values.now k) ≤ length out.old) }

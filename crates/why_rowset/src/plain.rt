@@ -35,7 +35,9 @@ fn padding(input: &[u8], start: usize, count: usize) -> Finding
     Finding::Fine
 }
 
-// The length word of a value that is no blob, and a boolean's word.
+// The length word of a value that is no blob, and a boolean's word. `input`, `at` and `header` go from function to
+// function here and in `value`, and each requires that `header` stands at `at`: findings tell places in the whole
+// input, and the header is read once.
 fn words(input: &[u8], at: usize, header: Header) -> Finding
     requires { (header ≡ header_at input.now at) × (blob (type_at input.now at) ≡ false)
         × (at + 8 ≤ length input.now) }

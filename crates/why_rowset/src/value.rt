@@ -112,7 +112,8 @@ fn check_payload(input: &[u8], at: usize, header: Header) -> Result<Checked, Fin
     }
 }
 
-// The checks of the value at `at`, in their order.
+// The checks of the value at `at`, in their order. That `at` lies within the input is required here, below and in
+// `walk`: it is where the walk stands in the whole input, no slice of it.
 fn check(input: &[u8], at: usize) -> Result<Checked, Finding>
     requires { at ≤ length input.now }
     ensures { Checks input.now at result }

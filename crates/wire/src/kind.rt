@@ -1,5 +1,6 @@
 // The types of values by their codes, the kinds that they fall into, and a scalar's bits. Elsewhere codes are compared
-// only to tell a boolean from the other scalars.
+// only to tell a boolean from the other scalars. A type is its code, a `u64`, in all crates of rowsets and of their
+// text: so it stands among the words of the tables that C lends, which may hold any number there.
 ghost use Rattle.wire.specs.Statement.{IsKind, IsBits};
 
 use super::layout::flag;
@@ -31,7 +32,7 @@ pub enum Kind {
     Unknown,
 }
 
-// The kind of a type's code.
+// The kind of a type's code. No `From<u64>`: that the number is a type's code would no longer stand at the calls.
 #[tactic(auto, unfolding(crate::specs::Kind::kind_of))]
 pub fn kind_of(code: u64) -> Kind
     ensures { IsKind code result }

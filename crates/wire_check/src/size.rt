@@ -40,7 +40,8 @@ fn cap(length: u64) -> u32
     length as u32
 }
 
-// 12, then 13. A type that is not known counts as one without payload.
+// 12, then 13. A type that is not known counts as one without payload. It is its code: so it stands in the lent table
+// (see wire's `kind`).
 fn measure_value(kind: u64, length: u64, size: usize) -> Result<usize, WireError>
     requires { size ≤ max_size }
     ensures { Follows (decide (value_order kind length size)) (size + size_of kind length) result }
@@ -123,7 +124,7 @@ pub fn encoded_size(area: &[u8], rows: &[u64], values: &[u64]) -> Result<usize, 
     measure_rows(rows, values)
 }
 
-// The size, or the refusal, as document 01's number and values.
+// The size, or how many bytes were written, or the refusal, as document 01's number and values.
 // (No `From`: both `Outcome` and `Result` are of other crates.)
 pub fn outcome(answer: Result<usize, WireError>) -> Outcome
     ensures { Tells (paper_measured answer) result }

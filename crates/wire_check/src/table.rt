@@ -25,7 +25,8 @@ fn sums_to(rows: &[u64], entries: usize) -> bool
     left == 0
 }
 
-// Rule 3 of one entry, in its order.
+// Rule 3 of one entry, in its order. The type is its code, and is looked up here: any number may stand in a lent table
+// (see wire's `kind`).
 fn bad_value(size: u64, id: u64, kind: u64, aggregate: u64, bits: u64, length: u64) -> bool
     ensures { result ≡ bad size id kind aggregate bits length }
 {

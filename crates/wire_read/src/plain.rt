@@ -30,7 +30,8 @@ fn header_at(input: &[u8], at: usize) -> Header
     read_header(&input[at..at + WORD_SIZE], 0)
 }
 
-// Whether so many bytes are zero.
+// Whether so many bytes are zero. No slice of these bytes: the plain form's `zeros` is told of the whole input, a count
+// and a place.
 fn zeros(input: &[u8], count: usize, start: usize) -> bool
     requires { start + count ≤ length input.now }
     ensures { result ≡ zeros input.now count start }

@@ -1,14 +1,11 @@
 -- Words as signed numbers and as floats. Assumes nothing.
 use mathlib.Core.Path.{◌≡◌, refl, sym, ◌∙◌}
 use mathlib.Core.Bool.{Bool, true, false, not}
-use Prim.Native.Nat.{ℕ, zero, suc, ◌-◌, ◌%◌, ◌^◌, ◌<◌, ◌≤◌}
-use native.Mathlib.Omega.{arith}
-use native.Mathlib.Nat.{zero-add}
+use Prim.Native.Nat.{ℕ, suc, ◌-◌, ◌%◌, ◌^◌, ◌<◌, ◌≤◌}
 use lib.Dec.{T, ltb}
-use lib.IntN.{ℤ, pos, negsuc, ◌-ℤ◌}
+use lib.IntN.{pos, negsuc}
 use mir.Syntax.{w64}
-use mir.Val.{SFits, sel, to_z, of_z}
-use mir.Facts.{sfits_to_z, to_z-of_z}
+use mir.Val.{sel, to_z}
 use lib.Ieee.{Float, nan, inf, fin, binary64, of_bits, nan_bits, is_nan}
 use lib.Ieee.Bits.{nan_bits_is, nan_bits_above}
 use borrow.Author.Tests.{lt-ltb, le-ltb}
@@ -34,37 +31,10 @@ pub no_nan_not : (bits : ℕ) → bits % 0x8000_0000_0000_0000 ≤ 0x7ff0_0000_0
 no_nan_not bits h = rw (no_nan bits h) tt
 
 -- two's complement is how the machine reads signed bits
-signed_is : (bits : ℕ) → to_z w64 bits ≡ signed bits
+pub signed_is : (bits : ℕ) → to_z w64 bits ≡ signed bits
 unfolding signed
 signed_is bits = by_test (ltb bits (2 ^ 63))
   where
     by_test : (b : Bool) → sel b (pos bits) (negsuc (2 ^ 64 - suc bits)) ≡ pick b (pos bits) (negsuc (2 ^ 64 - suc bits))
     by_test true = refl
     by_test false = refl
-
--- signed bits that are stored and read again
-pub signed_back : (bits : ℕ) (z : ℤ) → bits < 2 ^ 64 → z ≡ signed bits → to_z w64 (of_z w64 z) ≡ signed bits
-signed_back bits z h e =
-    let same : z ≡ to_z w64 bits = e ∙ sym (signed_is bits) in
-    rw same (to_z-of_z {w = w64} {z = to_z w64 bits} (sfits_to_z {w = w64} {n = bits} (record { fits = h })) ∙ signed_is bits)
-
-pub signed_low : (bits : ℕ) → to_z w64 bits ≡ signed bits
-signed_low bits = signed_is bits
-
-minus_one : (m : ℕ) → negsuc 0 -ℤ pos m ≡ negsuc m
-minus_one zero = refl
-minus_one (suc n) = rw (zero-add n)
-
--- a word of the upper half, from the ones that it lacks
-module _ (bits : ℕ) (low : 2 ^ 63 ≤ bits) (high : bits < 2 ^ 64) where
-  below : negsuc 0 -ℤ to_z w64 (0xffff_ffff_ffff_ffff - bits) ≡ negsuc (0xffff_ffff_ffff_ffff - bits)
-  below = rw (lt-ltb (0xffff_ffff_ffff_ffff - bits) (2 ^ 63) (omega arith)) (minus_one (0xffff_ffff_ffff_ffff - bits))
-
-  pub signed_fits : SFits w64 (negsuc 0 -ℤ to_z w64 (0xffff_ffff_ffff_ffff - bits))
-  signed_fits = rw below (record { sfits = omega arith })
-
-  pub signed_high : to_z w64 (of_z w64 (negsuc 0 -ℤ to_z w64 (0xffff_ffff_ffff_ffff - bits))) ≡ signed bits
-  unfolding signed
-  signed_high =
-      let lacks : 0xffff_ffff_ffff_ffff - bits ≡ 2 ^ 64 - suc bits = omega arith in
-      to_z-of_z signed_fits ∙ below ∙ rw (lacks, le-ltb bits (2 ^ 63) low)

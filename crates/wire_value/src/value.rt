@@ -4,8 +4,8 @@ ghost use Rattle.std.specs.Float.{binary64};
 ghost use Rattle.std.specs.Float.Ieee.{of_bits};
 ghost use Rattle.words.specs.Paper.{Tells};
 ghost use Rattle.wire.specs.Layout.{type_at};
-ghost use Rattle.wire_value.specs.ValueOf.{signed, value_of, bits_at, header_at};
-ghost use Rattle.wire_value.specs.Paper.{bit, paper_value};
+ghost use Rattle.wire_value.specs.ValueOf.{value_of, bits_at, header_at};
+ghost use Rattle.wire_value.specs.Paper.{paper_value};
 ghost use Rattle.wire_value.specs.Statement.{ReadsHeader, ChecksValue, Lies, ReadsValue};
 ghost use Rattle.wire_value.specs.Stages.{Expects, Looks, type_of, offset_or, length_of};
 
@@ -43,6 +43,8 @@ pub struct UnversionedValue {
     pub next: usize,
 }
 
+// `kind` is the type's byte as it was read, here and in the functions below, for any byte may stand there (see
+// wire's `kind`).
 #[derive(Clone, Copy)]
 pub struct Header {
     pub id: u16,
@@ -90,7 +92,8 @@ fn payload_size(kind: u8, length: u32) -> Result<usize, WireError>
     }
 }
 
-// The payload of so many bytes: it is there, or 9.
+// The payload of so many bytes: it is there, or 9. Each stage behind the header requires that the header is there: its
+// clauses tell of the place `at` in the whole input, as refusals do.
 fn check_bytes(input: &[u8], at: usize, header: Header, size: usize) -> Result<Checked, WireError>
     requires { (at + 8 ≤ length input.now) × (header ≡ header_at input.now at) × Looks input.now at size }
     ensures checks_value { ChecksValue input.now at result }
@@ -122,15 +125,6 @@ pub fn check_value(input: &[u8], at: usize) -> Result<Checked, WireError>
     check_payload(input, at, read_header(input, at))
 }
 
-fn int64(bits: u64) -> i64
-    ensures { result ≡ signed bits }
-{
-    if bits < 0x8000_0000_0000_0000 {
-        return bits as i64;
-    }
-    -1 - ((0xffff_ffff_ffff_ffff - bits) as i64)
-}
-
 // `from_bits` has no meaning at a NaN's pattern, so a NaN is made.
 fn double(bits: u64) -> f64
     ensures { result ≡ of_bits binary64 bits }
@@ -141,12 +135,12 @@ fn double(bits: u64) -> f64
     f64::from_bits(bits)
 }
 
-#[tactic(auto, unfolding(crate::specs::ValueOf::value_of))]
+#[tactic(auto, using(crate::proofs::ScalarLaws::signed_is), unfolding(crate::specs::ValueOf::value_of))]
 fn value_of(kind: u64, bits: u64, offset: usize, length: usize) -> Value
     ensures { result ≡ value_of kind bits offset length }
 {
     match kind {
-        INT64 => Value::Int64(int64(bits)),
+        INT64 => Value::Int64(bits.cast_signed()),
         UINT64 => Value::Uint64(bits),
         DOUBLE => Value::Double(double(bits)),
         BOOLEAN => Value::Boolean(bits != 0),
@@ -222,12 +216,6 @@ fn value_length(value: Value) -> u64
     }
 }
 
-fn bit(flag: bool) -> u64
-    ensures { result ≡ bit flag }
-{
-    u64::from(flag)
-}
-
 // The value's five words and the next offset, or the refusal, as document 01's number and values.
 // (No `From`: both `Outcome` and `Result` are of other crates.)
 pub fn outcome(answer: Result<UnversionedValue, WireError>) -> Outcome
@@ -243,7 +231,7 @@ pub fn outcome(answer: Result<UnversionedValue, WireError>) -> Outcome
                 count: read.next as u64,
                 v0: read.id as u64,
                 v1: value_type(value),
-                v2: bit(read.aggregate),
+                v2: u64::from(read.aggregate),
                 v3: value_word(value, read.bits),
                 v4: value_length(value),
                 v5: 0,

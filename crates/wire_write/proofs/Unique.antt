@@ -35,5 +35,6 @@ encode_rowset_unique area rows values before x x' p q =
     let second : x.1 ≡ x'.1 = holds_one answer (rowset_bytes area rows values) before x.1 x'.1 p.1 q.1 in
     λ i. (first i, second i)
 
+-- the words of an answer, which `outcome` of `wire_check` gives
 pub outcome_unique : (answer : Result ℕ WireError) → OneResult (Tells (paper_encoded answer))
 outcome_unique answer = equal_to_one (outcome (paper_encoded answer))

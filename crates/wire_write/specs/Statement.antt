@@ -1,5 +1,4 @@
--- What `encode_rowset` promises, by name. (The map of answers promises words' `Tells` of `paper_encoded`.) Assumes
--- nothing.
+-- What `encode_rowset` promises, by name. (The map of answers is `outcome` of `wire_check`.) Assumes nothing.
 use Rattle.std.specs.Prelude.{ℕ, List, length, Result}
 use Rattle.words.specs.Statement.{Means, Holds}
 use Rattle.wire.specs.Layout.{rowset_bytes}

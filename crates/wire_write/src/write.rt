@@ -1,9 +1,7 @@
 // A rowset's bytes, each value's written at its own stretch of the output, after the Rust's `encode_rowset_unchecked`.
 ghost use Rattle.std.specs.Prelude.{◌≡◌, false, ◌+◌, ◌*◌, ◌%◌, ◌≤◌};
 ghost use lib.ListN.{length};
-ghost use Rattle.words.specs.Paper.{Tells};
 ghost use Rattle.words.specs.Word.{bytes_of};
-ghost use Rattle.wire_write.specs.Paper.{paper_encoded};
 ghost use Rattle.wire.specs.Layout.{entry_words, values_in, value_bytes, entry_bytes, values_bytes, row_bytes, rows_bytes};
 ghost use Rattle.wire_check.specs.Writing.{total, bad, bad_entry};
 ghost use Rattle.wire_check.specs.Stages.{Good};
@@ -15,9 +13,10 @@ use wire::kind::{Kind, kind_of};
 use wire::layout::{ENTRY_WORDS, WORD_SIZE, values_in};
 use wire_check::size::encoded_size;
 use word_write::{write_bytes, write_u64, write_zeros};
-use words::outcome::{NoRoom, Outcome, Room, taken};
+use words::outcome::{NoRoom, Room};
 
-// The four fields of a header as one word.
+// The four fields of a header as one word. A type is its code, here and below: so it stands in the lent table (see
+// wire's `kind`).
 fn header(id: u64, kind: u64, aggregate: u64, length: u64) -> u64
     ensures { bytes_of 8 result ≡ header_bytes id kind aggregate length }
 {
@@ -67,7 +66,8 @@ fn write_value(
     }
 }
 
-// The value whose entry begins at the word `k`.
+// The value whose entry begins at the word `k`. `text_write` has this function and `write_rows` once more, over its own
+// `write_value` and `write_row`: one of each for both would take these as parameters, and what they write besides.
 fn write_entry(area: &[u8], values: &[u64], k: usize, out: &mut [u8]) -> usize
     requires { (k + entry_words ≤ length values.now) × (bad_entry (length area.now) values.now k ≡ false)
         × (length (entry_bytes area.now values.now k) ≤ length out.old) }
@@ -151,15 +151,4 @@ pub fn encode_rowset(
     write_u64(out, rows.len() as u64);
     write_rows(area, rows, values, &mut out[8..]);
     Ok(size)
-}
-
-// The bytes written, or the refusal, as document 01's number and values.
-// (No `From`: both `Outcome` and `Result` are of other crates.)
-pub fn outcome(answer: Result<usize, WireError>) -> Outcome
-    ensures { Tells (paper_encoded answer) result }
-{
-    match answer {
-        Ok(size) => taken(size as u64, 0, 0, 0),
-        Err(error) => Outcome::from(error),
-    }
 }
