@@ -158,4 +158,3 @@ pub block_left : (n i : ℕ) (s w w' : List ℕ) {h : List ℕ} → length w ≡
 block_left n i s w w' full room gone moved =
     ap₂ (λ (h t : List ℕ). fold 0 (owed places h t)) (moved ∙ drop_take n 1856 w' ∙ ap (drop n) gone) (sym (drop-drop n i s))
     ∙ sym (left n (take 1856 w) (drop i s) (length-take-le 1856 w (omega arith)) (omega (arith, length-drop i s)))
-
