@@ -2074,6 +2074,9 @@ pub fn tables() -> Tables
     TABLES
 }
 
+// The tables come as a slice here and below, and not as `Tables`, since a caller may lend `fold_lent` tables of any
+// length, which it looks at. Tables, register and bytes are no struct: it would be made only to be taken apart.
+
 // Eight bytes that were xored into the register, the first of them lowest.
 fn looked_up(tables: &[u64], x: u64) -> u64
     requires { eight_tables ≤ length tables.now }

@@ -2115,7 +2115,8 @@ fn table_7(asked: u8) -> u64
 }
 
 // Eight bytes that were xored into the register, which is held byte-swapped, the first of them lowest: each is asked of
-// the table of as many bytes as stand behind it, three words among them.
+// the table of as many bytes as stand behind it, three words among them. It stands beside `near` for the reason that is
+// told there.
 pub fn far(x: u64) -> u64
     ensures { FarIs x result }
 {

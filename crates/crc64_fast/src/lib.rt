@@ -19,7 +19,8 @@ fn write_low(word: u64, count: usize, out: &mut [u8])
 }
 
 // The first bytes as a word, of which so many count; over the front of `out`, but where that is too short for all.
-// Where they are copied, no byte is loaded that belongs to the next word.
+// Where they are copied, no byte is loaded that belongs to the next word. `short` is a flag here and below, and no
+// second function or closure: both ways share the one loop of `copy_held`, whose tables are read in place for that.
 fn first_word(bytes: &[u8], count: usize, short: bool, out: &mut [u8]) -> u64
     requires { (count ≤ 8) × (count ≤ length bytes.now) × (short ≡ false → count ≤ length out.old) }
     ensures { (result ≡ pick short (word 8 bytes.now 0) (word 8 (take count bytes.now) 0))

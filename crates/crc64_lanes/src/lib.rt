@@ -67,7 +67,8 @@ fn joined(a: u64, b: u64, c: u64, d: u64, bytes: &[u8], i: usize) -> u64
     fold_held(before ^ d, &bytes[i + 24..])
 }
 
-// The bytes from one place on, over `out` there, where they are copied.
+// The bytes from one place on, over `out` there, where they are copied. `copies` is a flag here and below, and no
+// second function or closure: both ways share the one loop of `walk`, whose tables are read in place for that.
 fn put_rest(bytes: &[u8], at: usize, copies: bool, out: &mut [u8])
     requires { (at ≤ length bytes.now) × (copies ≡ true → at ≤ length out.old) }
     ensures { (length out.new ≡ length out.old)

@@ -30,7 +30,9 @@ type Window = [u8; WINDOW];
 
 type Tail = [u8; SPAN];
 
-// The next `count` bytes leave.
+// The next `count` bytes leave. Here and below window, bytes and count are no struct: the window is written, the bytes
+// are only read, and the count is less than theirs, since the last ones are the tail's. The clauses ask for the lengths
+// that the types tell, since the laws are of lists.
 fn leave(window: &mut Window, bytes: &[u8], at: usize, count: usize)
     requires { (length window.old ≡ window_size) × (count ≤ block_size) × (at + count ≤ length bytes.now) }
     ensures { (length window.new ≡ window_size)
@@ -133,7 +135,8 @@ fn pay_all(window: &Window, tail: &mut Tail)
     pay(window, tail, 0);
 }
 
-// The first `count` bytes leave; where they are copied, over the front of `out`, and out of their copies.
+// The first `count` bytes leave; where they are copied, over the front of `out`, and out of their copies. `copies` is a
+// flag here and below, and no second function or closure: both ways share `walk`, which is so called from two places.
 fn leave_first(window: &mut Window, bytes: &[u8], count: usize, copies: bool, out: &mut [u8])
     requires { (length window.old ≡ window_size) × (count + span ≤ length bytes.now)
         × (copies ≡ true → length bytes.now ≤ length out.old) }

@@ -2116,7 +2116,8 @@ fn table_7(asked: u8) -> u64
 }
 
 // Eight bytes that were xored into the register, which is held byte-swapped, the first of them lowest: each is asked of
-// the table of as many bytes as stand behind it.
+// the table of as many bytes as stand behind it. `far` in crc64_far does the same over its own tables. They are not one
+// function that is given its tables: a table is read in place where its function is called from one place alone.
 pub fn near(x: u64) -> u64
     ensures { NearIs x result }
 {

@@ -1,5 +1,5 @@
-// Packets written from a lent part table. A type is its number; an unknown one is refused by 2, before all else. A mode
-// is a number too: 0 is archive, any other is live.
+// Packets written from a lent part table. A type is its number, as the C interface has it; an unknown one is refused by
+// 2, before all else. A mode is a number too: 0 is archive, any other is live.
 #![tactic(auto)]
 
 ghost use Rattle.face_parts.specs.Statement.{unknown_type};

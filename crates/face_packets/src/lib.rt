@@ -1,5 +1,6 @@
-// Packets read into a lent part table. A mode is a number: 0 is archive, any other is live. Writing stands in
-// `face_packet_write`: so the loops of the checksum's engine that are compiled into the reader copy nothing.
+// Packets read into a lent part table. A mode is a number, as the C interface has it: 0 is archive, any other is live.
+// Writing stands in `face_packet_write`: so the loops of the checksum's engine that are compiled into the reader copy
+// nothing.
 #![tactic(auto)]
 
 ghost use Rattle.packet_sum.specs.Statement.{PartChecksumIs};

@@ -1,6 +1,6 @@
 // Packets' parts in a lent table: checked and measured before they are written, and where one lies. Nothing here needs
-// an engine of the checksum. A type is its number; an unknown one is refused by 2, before all else. A mode is a number
-// too: 0 is archive, any other is live.
+// an engine of the checksum. A type is its number, as the C interface has it; an unknown one is refused by 2, before
+// all else. A mode is a number too: 0 is archive, any other is live.
 #![tactic(auto)]
 
 ghost use Rattle.face_parts.specs.Statement.{unknown_type, Measures, Validates, LendsPart, Contains};

@@ -1,4 +1,5 @@
-// The static library's functions that tell a person why a buffer was refused: a finding as a struct of words.
+// The static library's functions that tell a person why a buffer was refused: a finding as a struct of words. A mode is
+// a number, as the C interface has it: 0 is archive, any other is live.
 #![tactic(auto)]
 
 ghost use Rattle.face_why.specs.Statement.{WhysPacket, WhysRowset};
@@ -18,7 +19,7 @@ pub extern "C" fn cablefinch_why_packet(
 {
     let mode = mode_of(mode);
     let told = why_packet::explain(mode, input, max_message_size, max_part_count);
-    finding::outcome(told)
+    Outcome::from(told)
 }
 
 // Why a rowset is refused or is not plain, or that it is fine.
@@ -26,5 +27,5 @@ pub extern "C" fn cablefinch_why_packet(
 pub extern "C" fn cablefinch_why_rowset(input: &[u8]) -> Outcome
     ensures { WhysRowset input.now result }
 {
-    finding::outcome(why_rowset::explain(input))
+    Outcome::from(why_rowset::explain(input))
 }

@@ -52,7 +52,7 @@ pub enum Finding {
         field: Field,
         length: u64,
     },
-    // A refusal by its number.
+    // A refusal by its number in document 01: the enums of errors are the readers', which stand above this crate.
     Refused {
         number: u64,
         field: Field,
@@ -96,7 +96,8 @@ pub fn field_number(field: Field) -> u64
     }
 }
 
-// A place as an outcome: the field, its offset, what was found, and what was wanted with its kind.
+// A place as an outcome: the field, its offset, what was found, and what was wanted with its kind. Kind and number are
+// an outcome's own words here and below, as the C interface has them.
 fn place(kind: u64, number: u64, field: Field, offset: u64, found: u64, wanted: Wanted) -> Outcome
     ensures { result ≡ place_words kind number field offset found wanted }
 {
@@ -125,26 +126,27 @@ fn words(kind: u64, number: u64, v0: u64, v1: u64, v2: u64, v3: u64, v4: u64) ->
 }
 
 // A finding as an outcome: its kind, a refusal's number, and in the values the field's number, its offset (of need-more
-// the length), what was found, what was wanted, and whether that is a number or a list of types. A function and no
-// `From`: the exports of `face_why` call it by its name.
-pub fn outcome(finding: Finding) -> Outcome
-    ensures { TellsFinding finding result }
-{
-    match finding {
-        Finding::Fine => words(ACCEPTED, 0, 0, 0, 0, 0, 0),
-        Finding::More { field, length } => words(MORE, 0, field_number(field), length, 0, 0, 0),
-        Finding::Refused {
-            number,
-            field,
-            offset,
-            found,
-            wanted,
-        } => place(REFUSED, number, field, offset, found, wanted),
-        Finding::NotPlain {
-            field,
-            offset,
-            found,
-            wanted,
-        } => place(NOT_PLAIN, 0, field, offset, found, wanted),
+// the length), what was found, what was wanted, and whether that is a number or a list of types.
+impl From<Finding> for Outcome {
+    ghost from_gives = { λ finding result. TellsFinding finding result };
+
+    fn from(finding: Finding) -> Outcome {
+        match finding {
+            Finding::Fine => words(ACCEPTED, 0, 0, 0, 0, 0, 0),
+            Finding::More { field, length } => words(MORE, 0, field_number(field), length, 0, 0, 0),
+            Finding::Refused {
+                number,
+                field,
+                offset,
+                found,
+                wanted,
+            } => place(REFUSED, number, field, offset, found, wanted),
+            Finding::NotPlain {
+                field,
+                offset,
+                found,
+                wanted,
+            } => place(NOT_PLAIN, 0, field, offset, found, wanted),
+        }
     }
 }

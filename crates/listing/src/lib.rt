@@ -38,6 +38,9 @@ enum Stepped {
     Last(usize),
 }
 
+// Each line is told where it is written and the offset that it tells, and answers where it ends. No struct holds these
+// here and below: a line's end is the next one's place, and the offset stays. Each asks for the room of its line.
+
 fn packet_line(out: &mut [u8], at: usize, offset: usize, packet: packet::Packet) -> usize
     requires { at + 128 ≤ length out.old }
     ensures { Wrote (packet_line offset (fields_of packet)) at out.old result out.new × (result ≤ at + 128) }
@@ -85,7 +88,7 @@ fn part_line(out: &mut [u8], at: usize, index: usize, size: u64, sum: u64) -> us
     put_entry(out, length_at, size, sum)
 }
 
-// The lines of the parts of a part table, of which the first `count` entries are asked for.
+// The lines of the parts of a part table, of which the first `count` entries are asked for; the table is longer.
 fn part_lines(out: &mut [u8], at: usize, parts: &[u64], count: usize) -> usize
     requires { (at + 55 * count ≤ length out.old) × (entry_words * count ≤ length parts.now) }
     ensures { Wrote (part_lines parts.now count) at out.old result out.new
@@ -133,6 +136,7 @@ fn more_line(out: &mut [u8], at: usize, offset: usize) -> usize
     put_field(out, offset_at, offset as u64, b'\n')
 }
 
+// A refusal's number in document 01, which is what is printed.
 fn refused_line(out: &mut [u8], at: usize, offset: usize, number: u64) -> usize
     requires { at + 128 ≤ length out.old }
     ensures { Wrote (refused_line offset number) at out.old result out.new }

@@ -127,7 +127,8 @@ impl From<PacketType> for u16 {
     }
 }
 
-// The type that has this number, if one has.
+// The type that has this number, if one has. It is no `TryFrom`: an unknown number is no error by itself, but the
+// reader's or the C interface's, and each says where it stood.
 pub fn type_of(number: u64) -> Option<PacketType>
     ensures { FindsType number result }
 {

@@ -3,7 +3,7 @@
 // input.
 #![tactic(auto)]
 
-ghost use Rattle.std.specs.Prelude.{◌≡◌, not, ◌&&◌, ◌+◌, ◌*◌, ◌≤◌, ◌<◌, min, length};
+ghost use Rattle.std.specs.Prelude.{◌≡◌, not, ◌&&◌, ◌+◌, ◌*◌, ◌≤◌, ◌<◌, length};
 ghost use Rattle.words.specs.Decide.{pick, ◌=?◌, ◌<?◌};
 ghost use Rattle.words.specs.Buffer.{over};
 ghost use Rattle.packet.specs.Layout as Layout;
@@ -109,7 +109,8 @@ fn size_word(input: &[u8], index: usize) -> u32
     read_u32(&input[at..at + SIZE_BYTES], 0)
 }
 
-// The checksum word of part `index` of so many.
+// The checksum word of part `index` of so many. Here and below `count` is the header's number of parts, and not the
+// input's length; that it is at most `most_parts` is asked for, since no sum then overflows.
 fn sum_word(input: &[u8], count: usize, index: usize) -> u64
     requires { sum_place count index + checksum_bytes ≤ length input.now }
     ensures { result ≡ Layout.part_sum input.now count index }
@@ -240,16 +241,6 @@ fn fill(input: &[u8], count: usize, parts: &mut [u64])
     }
 }
 
-fn most_parts(ceiling: u32) -> u32
-    ensures { result ≡ min most_parts ceiling }
-{
-    if ceiling < MAX_PART_COUNT {
-        ceiling
-    } else {
-        MAX_PART_COUNT
-    }
-}
-
 // A packet with a variable header: all that is asked behind the count of its parts.
 fn body(input: &[u8], packet: Packet, count: usize, limit: u64, parts: &mut [u64]) -> Decoded
     requires { (fields_of packet ≡ fields input.now) × (count ≤ most_parts) × (count ≡ Layout.count input.now) }
@@ -286,7 +277,8 @@ pub fn decode_with(
         return Ok(None);
     };
     let count = packet.parts;
-    if most_parts(max_part_count) < count {
+    let most = MAX_PART_COUNT.min(max_part_count);
+    if most < count {
         return Err(Refusal::from(PacketError::TooManyParts { count }));
     }
     let packet_type = packet.packet_type;

@@ -18,8 +18,8 @@ use crc64_long::COPY_LONG_FROM;
 use guid::Guid;
 use packet::{
     CHECKSUM_BYTES, COUNT_AT, ENTRY_WORDS, FIXED_FIELDS_SIZE, FIXED_HEADER_SIZE, FLAGS_AT, ID_AT,
-    Mode, NULL_PART_SIZE, PART_HEADER_SIZE, PacketError, PacketFlags, PacketType, SIGNATURE,
-    SIZE_BYTES, TYPE_AT,
+    Mode, NULL_PART_SIZE, PART_HEADER_SIZE, Packet, PacketError, PacketFlags, PacketType,
+    SIGNATURE, SIZE_BYTES, TYPE_AT,
 };
 use word_write::{write_u16, write_u32, write_u64};
 use words::outcome::{NoRoom, Room};
@@ -43,16 +43,16 @@ fn seal(size: usize, out: &mut [u8])
     write_u64(&mut out[size..], sum);
 }
 
-fn write_fields(packet_type: PacketType, flags: PacketFlags, id: Guid, count: u32, out: &mut [u8])
+fn write_fields(header: Packet, out: &mut [u8])
     requires { fixed_fields_size ≤ length out.old }
     ensures { out.new
-        ≡ over (fixed_fields (type_number packet_type) flags.0 id count) out.old }
+        ≡ over (fixed_fields (type_number header.packet_type) header.flags.0 header.id header.parts) out.old }
 {
     write_u32(out, SIGNATURE);
-    write_u16(&mut out[TYPE_AT..], u16::from(packet_type));
-    write_u16(&mut out[FLAGS_AT..], flags.0);
-    id.write(&mut out[ID_AT..]);
-    write_u32(&mut out[COUNT_AT..], count);
+    write_u16(&mut out[TYPE_AT..], u16::from(header.packet_type));
+    write_u16(&mut out[FLAGS_AT..], header.flags.0);
+    header.id.write(&mut out[ID_AT..]);
+    write_u32(&mut out[COUNT_AT..], header.parts);
 }
 
 fn write_sizes(parts: &[u64], out: &mut [u8])
@@ -77,6 +77,9 @@ fn copied(bytes: &[u8], out: &mut [u8]) -> u64
     }
     crc64_lanes::copy_lanes(0, bytes, out)
 }
+
+// Area, part table and output are lent one by one here and below, as `encode` is given them: only the output is
+// written, and each writer is lent its own part of it.
 
 // The checksum words of the parts at the front of `out`, and the parts behind them and the eight bytes of the words'
 // own checksum, which stay as they were. A part is copied and folded on one walk, and its word is put after it.
@@ -112,12 +115,12 @@ fn write_body(area: &[u8], parts: &[u64], out: &mut [u8])
     seal(size, out);
 }
 
-fn write_fixed(packet_type: PacketType, flags: PacketFlags, id: Guid, count: u32, out: &mut [u8])
+fn write_fixed(header: Packet, out: &mut [u8])
     requires { fixed_header_size ≤ length out.old }
     ensures { out.new
-        ≡ over (sealed (fixed_fields (type_number packet_type) flags.0 id count)) out.old }
+        ≡ over (sealed (fixed_fields (type_number header.packet_type) header.flags.0 header.id header.parts)) out.old }
 {
-    write_fields(packet_type, flags, id, count, out);
+    write_fields(header, out);
     seal(FIXED_FIELDS_SIZE, out);
 }
 
@@ -135,7 +138,13 @@ fn write_packet(
         ≡ over (bytes_for packet_type flags id area.now parts.now) out.old }
 {
     let count = parts.len() / ENTRY_WORDS;
-    write_fixed(packet_type, flags, id, count as u32, out);
+    let header = Packet {
+        packet_type,
+        flags,
+        id,
+        parts: count as u32,
+    };
+    write_fixed(header, out);
     if packet::has_variable_header(packet_type, count) {
         write_body(area, parts, &mut out[FIXED_HEADER_SIZE..]);
     }

@@ -2,8 +2,7 @@
 // person.
 #![tactic(auto)]
 
-ghost use Rattle.std.specs.Prelude.{◌≡◌, min};
-ghost use Rattle.packet.specs.Layout.{most_parts};
+ghost use Rattle.std.specs.Prelude.{◌≡◌};
 ghost use Rattle.packet.specs.Paper.{number_of, values_of};
 ghost use Rattle.finding.specs.Meaning.{name_of, meaning};
 ghost use Rattle.why_packet.specs.Checks.{ExplainsPacket};
@@ -18,18 +17,6 @@ use packet::{
 use packet_answer::{Refusal, outcome};
 use packet_read::decode_with;
 use word_read::read_u32;
-
-// The most parts that a packet may have under this ceiling: the same as in `packet_read`, where it is private, since
-// only what a caller needs is public and promised.
-fn most_parts(ceiling: u32) -> u32
-    ensures { result ≡ min most_parts ceiling }
-{
-    if ceiling < MAX_PART_COUNT {
-        ceiling
-    } else {
-        MAX_PART_COUNT
-    }
-}
 
 // Which length passes a bound: that of the headers of so many parts, or the whole.
 fn length_field(count: u32, bound: u64) -> Field
@@ -84,7 +71,7 @@ fn refusal(count: u32, error: PacketError, max_part_count: u32) -> Finding
             field: Field::PartCount,
             offset: COUNT_AT as u64,
             found: found as u64,
-            wanted: Wanted::Number(most_parts(max_part_count) as u64),
+            wanted: Wanted::Number(MAX_PART_COUNT.min(max_part_count) as u64),
         },
         PacketError::MessageTooLarge { size, limit } => Finding::Refused {
             number,

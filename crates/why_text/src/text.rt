@@ -1,4 +1,5 @@
-// A finding as a line of text, in pieces written to a buffer at a place, each answering where it ends.
+// A finding as a line of text, in pieces written to a buffer at a place, each answering where it ends. Each asks for the
+// room of its own text, a whole line for that of a line.
 ghost use Rattle.std.specs.Prelude.{[], ◌∷◌, ◌++◌, ◌+◌, ◌≤◌, length};
 ghost use Rattle.words.specs.Text.{text};
 ghost use Rattle.numerals.specs.Statement.{decimal};
@@ -55,7 +56,8 @@ fn put_wanted(out: &mut [u8], at: usize, wanted: Wanted) -> usize
     }
 }
 
-// The field, its offset, what was found and what was wanted.
+// The field, its offset, what was found and what was wanted. They are no struct here and below: they are the fields of
+// a `Finding`, and `refusing` and `breaking`, by which the clauses tell it, take them one by one.
 fn put_place(
     out: &mut [u8],
     at: usize,
@@ -82,6 +84,7 @@ fn put_more(out: &mut [u8], field: Field, size: u64) -> usize
     put_field(out, size_at, size, b'\n')
 }
 
+// `number` is the refusal's in document 01, which is what is printed.
 fn put_refused(
     out: &mut [u8],
     number: u64,

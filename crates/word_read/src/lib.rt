@@ -28,6 +28,9 @@ fn whole_u64(s: &[u8], at: usize) -> u64
     u64::from_le_bytes(s[at..at + 8].try_into().unwrap())
 }
 
+// The three below are not one function over a type: `from_le_bytes` is each integer's own and no trait's, and a word
+// that the end cuts is made of two of the next smaller ones.
+
 // The two bytes at `at` as a word.
 pub fn read_u16(s: &[u8], at: usize) -> u16
     ensures { ReadsWord 2 s.now at result }

@@ -37,7 +37,7 @@ pub fn write_bytes(out: &mut [u8], bytes: &[u8])
     out[..bytes.len()].copy_from_slice(bytes);
 }
 
-// `count` bytes of 0.
+// `count` bytes of 0. `out` may be longer than they are.
 pub fn write_zeros(out: &mut [u8], count: usize)
     ensures { Leaves (replicate count 0) out.old out.new }
 {

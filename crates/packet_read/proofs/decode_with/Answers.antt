@@ -9,17 +9,17 @@ returns-in_err-packet c = read_err _ _ _ _ _ _ _ c.from_residual.ensures c.in_er
 pub returns-in_default : goal.returns-in_default
 returns-in_default c = read_more _ _ _ _ _ (rw c.in_default.is at c.in_ok-packet.ensures)
 
-pub returns-then-most_parts-count : goal.returns-then-most_parts-count
-returns-then-most_parts-count c =
+pub returns-then-most-count : goal.returns-then-most-count
+returns-then-most-count c =
     let header = rw c.in-Some.is at c.in_ok-packet.ensures in
-    read_too_many _ _ _ _ _ c.in-Some.packet header _ c.most_parts.ensures _ c.if-most_parts-count.true c.from.ensures
+    read_too_many _ _ _ _ _ c.in-Some.packet header _ c.min-most.ensures _ c.if-most-count.true c.from.ensures
 
 pub returns-then-has_variable_header : goal.returns-then-has_variable_header
 returns-then-has_variable_header c =
     let header = rw c.in-Some.is at c.in_ok-packet.ensures in
-    read_body _ _ _ _ _ c.in-Some.packet header _ c.most_parts.ensures c.if-most_parts-count.false _ c.has_variable_header.ensures _ _ c.if-has_variable_header.true c.body.ensures
+    read_body _ _ _ _ _ c.in-Some.packet header _ c.min-most.ensures c.if-most-count.false _ c.has_variable_header.ensures _ _ c.if-has_variable_header.true c.body.ensures
 
 pub returns : goal.returns
 returns c =
     let header = rw c.in-Some.is at c.in_ok-packet.ensures in
-    read_bare _ _ _ _ _ c.in-Some.packet header _ c.most_parts.ensures c.if-most_parts-count.false _ c.has_variable_header.ensures c.if-has_variable_header.false
+    read_bare _ _ _ _ _ c.in-Some.packet header _ c.min-most.ensures c.if-most-count.false _ c.has_variable_header.ensures c.if-has_variable_header.false

@@ -15,10 +15,10 @@ use Rattle.packet_write.proofs.write_fields.Goals as goal
 pub returns : goal.returns
 unfolding fixed_fields
 returns c =
-    let type : ℕ = type_number c.args.packet_type in
-    let flags : ℕ = c.args.flags.0 in
-    let id = c.args.id in
-    let count : ℕ = c.args.count in
+    let type : ℕ = type_number c.args.header.packet_type in
+    let flags : ℕ = c.args.header.flags.0 in
+    let id = c.args.header.id in
+    let count : ℕ = c.args.header.parts in
     let behind-3 : List ℕ = bytes_of 4 count in
     let behind-2 : List ℕ = wire_bytes id ++ behind-3 in
     let behind-1 : List ℕ = bytes_of 2 flags ++ behind-2 in

@@ -52,7 +52,7 @@ pub returns-in-TooManyParts : goal.returns-in-TooManyParts
 unfolding refusal_tells
 returns-in-TooManyParts c =
     let refused = c.refused-told in
-    rw (number_is c.args.error refused.result refused.ensures, c.most_parts.ensures, c.in-TooManyParts.is)
+    rw (number_is c.args.error refused.result refused.ensures, c.min.ensures, c.in-TooManyParts.is)
 
 pub returns-in-MessageTooLarge : goal.returns-in-MessageTooLarge
 unfolding refusal_tells
