@@ -10,7 +10,8 @@ pub enum ErrorRefusal {
     BadMessage { place: usize },
     // 23: this inner error would be the 17th level.
     ErrorsTooDeep { place: usize },
-    // 18: which rule the tables break, and where.
+    // 18: which rule the tables break, and where. The rule stays a number: the `From` below takes every one, and an enum
+    // would ask more of its callers.
     BadTable { rule: u64, position: usize },
     // 17
     NoRoom(NoRoom),

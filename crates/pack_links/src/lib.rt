@@ -10,7 +10,7 @@ use wire::layout::ENTRY_WORDS;
 // What a link adds to a word for each entry: the bits below are the word's own.
 pub const LINK: u64 = 0x1_0000;
 
-// Where a pair belongs.
+// Where a pair belongs. Both cases are places and neither is a failure, so it is no `Option` or `Result`.
 #[derive(Clone, Copy)]
 pub enum Place {
     // the entry that has the pair

@@ -107,6 +107,7 @@ pub enum PacketError {
         limit: u64,
     },
     NoRoom(NoRoom),
+    // The rule stays a number: `refused` takes every one, and an enum would ask more of its callers.
     BadTable {
         rule: u64,
         position: u64,

@@ -78,6 +78,7 @@ fn guid_read<W: Write>(to: &mut W, line: &[u8]) {
     }
 }
 
+// Yes or no, as a number: what is printed, and no step that is picked.
 pub(crate) fn truth<W: Write>(to: &mut W, yes: bool) {
     say::number(to, u64::from(yes));
 }

@@ -35,13 +35,15 @@ pub(crate) fn bytes<W: Write>(to: &mut W, s: &[u8]) {
     }
 }
 
+// A comma behind a word; a branch of its own, so that the loop's proof has none.
 fn comma<W: Write>(to: &mut W, first: bool) {
     if !first {
         text(to, b",");
     }
 }
 
-// The first `count` words of a table.
+// The first `count` words of a table. Here and below the count is what an answer tells, and stays beside the table that
+// it may reach past: cut by the callers, each would test for that.
 pub(crate) fn words<W: Write>(to: &mut W, table: &[u64], count: usize) {
     text(to, b" ");
     if count == 0 {
@@ -109,8 +111,7 @@ fn values<W: Write>(to: &mut W, outcome: Outcome) {
     }
 }
 
-// `more`, or a refusal, of which `between` says what stands before its values; nothing for what is accepted. Whether it
-// is accepted.
+// `ok`, `more`, or a refusal: its number, what `between` says, and its values. Whether it is accepted.
 fn told<W: Write, F: FnOnce(&mut W)>(to: &mut W, outcome: Outcome, between: F) -> bool {
     match outcome.kind {
         ACCEPTED => {
@@ -131,7 +132,7 @@ fn told<W: Write, F: FnOnce(&mut W)>(to: &mut W, outcome: Outcome, between: F) -
     }
 }
 
-// A refusal without the bytes consumed.
+// The first words of an answer, a refusal's without the bytes consumed. Whether it is accepted.
 pub(crate) fn accepted<W: Write>(to: &mut W, outcome: Outcome) -> bool {
     told(to, outcome, |_| ())
 }

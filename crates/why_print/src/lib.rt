@@ -8,5 +8,11 @@ pub fn print_from<R: Read, W: Write>(reader: &mut R, writer: &mut W) -> bool {
     // The first line, the bytes behind it, and one byte more, so that a longer input shows.
     let mut buffer = [0u8; 65_544];
     let mut text = [0u8; why_text::LINE_ROOM];
-    input::print_from(reader, &mut buffer, &mut text, writer, |input, text| whying::why(input, text))
+    input::print_from(
+        reader,
+        &mut buffer,
+        &mut text,
+        writer,
+        |input, text| whying::why(input, text),
+    )
 }

@@ -15,6 +15,7 @@ pub enum WireError {
     UnknownValueType(u8),
     TrailingBytes(usize),
     NoRoom(NoRoom),
+    // The rule stays a number: the `From` below takes every one, and an enum would ask more of its callers.
     BadTable { rule: u8, position: usize },
 }
 
