@@ -94,13 +94,13 @@ pub(crate) fn words_into(out: &mut [u64], text: &[u8]) -> usize {
     if matches!(text, [b'-']) {
         return 0;
     }
-    let mut count = 0;
+    let mut count: usize = 0;
     for (word, part) in out
         .iter_mut()
         .zip(text.split_inclusive(|byte| *byte == b','))
     {
         *word = number(part.strip_suffix(b",").unwrap_or(part));
-        count += 1;
+        count = count.saturating_add(1);
     }
     count
 }

@@ -112,7 +112,9 @@ fn values<W: Write>(to: &mut W, outcome: Outcome) {
 }
 
 // `ok`, `more`, or a refusal: its number, what `between` says, and its values. Whether it is accepted.
-fn told<W: Write, F: FnOnce(&mut W)>(to: &mut W, outcome: Outcome, between: F) -> bool {
+fn told<W: Write, F: FnOnce(&mut W)>(to: &mut W, outcome: Outcome, between: F) -> bool
+    requires { F.IsAlwaysCallable between }
+{
     match outcome.kind {
         ACCEPTED => {
             text(to, b"ok");
