@@ -13,7 +13,8 @@ use Rattle.words.proofs.DecideLaws.{first_none, first_miss, first_hit, first_end
 use Rattle.error_tree.specs.Reading.{error_entry, attribute_entry}
 use Rattle.error_tree.specs.declared.refusal.ErrorRefusal.TheVariants.{BadTable}
 use Rattle.error_table.specs.Table.{errors_in, attributes_in, code_in, depth_in, text_in, text_length_in, index_in, key_in, key_length_in, value_in, value_length_in, outside, deepest, bad_depth, bad_error, bad_attribute, first_bad_error, first_bad_attribute, table_order}
-use Rattle.error_table.specs.Statement.{FindsFirst, ChecksTables}
+use Rattle.error_table.specs.Stages.{FindsFirst}
+use Rattle.error_table.specs.Statement.{ChecksTables}
 use Rattle.std.specs.declared.option.Option.TheVariants.{Some, None}
 use Rattle.std.specs.declared.result.Result.TheVariants.{Ok, Err}
 

@@ -1,16 +1,11 @@
 -- What `check_tables` promises, by name. Assumes nothing.
-use Rattle.std.specs.Prelude.{ℕ, ◌*◌, ◌<◌, ◌≡◌, false, List, length, Option, Some, None, Result, Ok, Err}
+use Rattle.std.specs.Prelude.{ℕ, ◌*◌, ◌<◌, ◌≡◌, false, List, length, Result, Ok, Err}
 use Rattle.words.specs.Answer.{Answer}
 use Rattle.words.specs.Decide.{decide}
 use Rattle.error_tree.specs.Reading.{error_entry, attribute_entry}
 use Rattle.error_tree.specs.Paper.{paper}
 use Rattle.error_table.specs.Table.{errors_in, attributes_in, bad_error, bad_attribute, table_order}
 use Rattle.error_tree.specs.declared.refusal.ErrorRefusal.{ErrorRefusal}
-
--- the first of n, which is a number below n; or none, which is n itself
-abbrev pub FindsFirst : ℕ → ℕ → Option ℕ → Type 0
-FindsFirst n found (Some i) = (i ≡ found) × (i < n)
-FindsFirst n found None = found ≡ n
 
 -- tables of whole entries, at least one of them an error, none of them bad
 pub record Sound (area errors attributes : List ℕ) : Type 0 where

@@ -3,7 +3,8 @@ ghost use Rattle.std.specs.Prelude.{◌≡◌, ◌+◌, ◌*◌, ◌≤◌, leng
 ghost use Rattle.error_tree.specs.Reading.{error_entry, attribute_entry};
 ghost use Rattle.error_table.specs.Table.{errors_in, attributes_in, outside, bad_depth, bad_error, first_bad_error};
 ghost use Rattle.error_table.specs.Table.{bad_attribute, first_bad_attribute};
-ghost use Rattle.error_table.specs.Statement.{FindsFirst, ChecksTables};
+ghost use Rattle.error_table.specs.Stages.{FindsFirst};
+ghost use Rattle.error_table.specs.Statement.{ChecksTables};
 
 use error_tree::refusal::ErrorRefusal;
 use error_tree::table::{ATTRIBUTE_ENTRY, ERROR_ENTRY};

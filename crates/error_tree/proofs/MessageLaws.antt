@@ -15,7 +15,8 @@ use Rattle.field.specs.declared.field.WireType.TheVariants.{Varint, Bytes}
 use Rattle.std.specs.declared.option.Option.TheVariants.{Some, None}
 use Rattle.field.proofs.FieldLaws.{type_one, stop_far, whole_before}
 use Rattle.error_tree.specs.Message.{wire_type, whole_in, fields_in, fields}
-use Rattle.error_tree.specs.Statement.{TypesField, ReadsKnown}
+use Rattle.error_tree.specs.Stages.{TypesField}
+use Rattle.error_tree.specs.Statement.{ReadsKnown}
 
 -- The wire type
 

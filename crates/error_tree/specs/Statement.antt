@@ -2,13 +2,7 @@
 use Rattle.std.specs.Prelude.{ℕ, ◌<◌, ◌≤◌, ◌≡◌, true, false, List, length, Option, Some, None}
 use Rattle.field.specs.Field.{type_code, number_at, type_at, value_at, content_at, stop_at}
 use Rattle.field.specs.declared.field.Field.{Field}
-use Rattle.field.specs.declared.field.WireType.{WireType}
-use Rattle.error_tree.specs.Message.{any_type, wire_type, whole_in}
-
--- the wire type of a field that the message knows; or none
-abbrev pub TypesField : ℕ → ℕ → Option WireType → Type 0
-TypesField known number (Some own) = (wire_type known number ≡ type_code own) × (type_code own < any_type)
-TypesField known number None = wire_type known number ≡ any_type
+use Rattle.error_tree.specs.Message.{whole_in}
 
 -- the field at `at` of a message that knows so many; or none
 abbrev pub ReadsKnown : ℕ → List ℕ → ℕ → ℕ → Option Field → Type 0

@@ -1,7 +1,8 @@
 // A field of one of the three messages: those that the message knows have a type of their own. A message goes by how
 // many fields it knows, as in the definitions of its fields (`fields`, `whole_in`). A field's number and how many are
 // known are numbers of the wire: of unknown fields any number comes.
-ghost use Rattle.error_tree.specs.Statement.{TypesField, ReadsKnown};
+ghost use Rattle.error_tree.specs.Stages.{TypesField};
+ghost use Rattle.error_tree.specs.Statement.{ReadsKnown};
 
 use field::field::{Field, WireType, read_field};
 

@@ -1,10 +1,10 @@
-// A reader read whole into a lent buffer, and a text made of it and written to a writer, for the programs. A read that
-// fails is told, and not taken for the input's end. A write that fails is passed over: whoever read the text is gone.
+// A reader read whole into a lent buffer, for the programs; a read that fails is told, and not taken for the input's
+// end.
 #![tactic(auto)]
 
 ghost use Rattle.input.specs.Statement.{Inside, ReadsWhole};
 
-use std::io::{self, Read, Write};
+use std::io::{self, Read};
 
 // Reads until the input ends or the buffer is full, and says how many bytes it put at the buffer's front.
 pub fn read_whole<R: Read>(reader: &mut R, buffer: &mut [u8]) -> io::Result<usize>
@@ -19,41 +19,6 @@ pub fn read_whole<R: Read>(reader: &mut R, buffer: &mut [u8]) -> io::Result<usiz
         }
     }
     Ok(done)
-}
-
-// Writes the text that `make` makes of the input, and says the length of, over the front of `text`.
-fn print<W: Write, E: Drop, F: FnOnce(&[u8], &mut [u8]) -> Result<usize, E>>(
-    input: &[u8],
-    text: &mut [u8],
-    writer: &mut W,
-    make: F,
-)
-    requires { F.IsAlwaysCallable make }
-{
-    let Ok(count) = make(input, text) else {
-        return;
-    };
-    if let Some(made) = text.get(..count) {
-        let _ = writer.write_all(made);
-    }
-}
-
-// Reads into the buffer, has the text made of what was read, writes it, and answers true; or false where the reader
-// cannot be read.
-pub fn print_from<R: Read, W: Write, E: Drop, F: FnOnce(&[u8], &mut [u8]) -> Result<usize, E>>(
-    reader: &mut R,
-    buffer: &mut [u8],
-    text: &mut [u8],
-    writer: &mut W,
-    make: F,
-) -> bool
-    requires { F.IsAlwaysCallable make }
-{
-    let Ok(count) = read_whole(reader, buffer) else {
-        return false;
-    };
-    print(&buffer[..count], text, writer, make);
-    true
 }
 
 #[cfg(test)]

@@ -1,4 +1,5 @@
-// What a reader holds, explained to a writer: the reading and writing of the programs that explain.
+// What a reader holds, explained to a writer: the reading and writing of the programs that explain. A write that fails
+// is passed over: whoever read the line is gone. Why its twin `list_print` stays is told there.
 #![tactic(auto)]
 
 use std::io::{Read, Write};
@@ -7,12 +8,12 @@ use std::io::{Read, Write};
 pub fn print_from<R: Read, W: Write>(reader: &mut R, writer: &mut W) -> bool {
     // The first line, the bytes behind it, and one byte more, so that a longer input shows.
     let mut buffer = [0u8; 65_544];
+    let Ok(count) = input::read_whole(reader, &mut buffer) else {
+        return false;
+    };
     let mut text = [0u8; why_text::LINE_ROOM];
-    input::print_from(
-        reader,
-        &mut buffer,
-        &mut text,
-        writer,
-        |input, text| whying::why(input, text),
-    )
+    if let Ok(made) = whying::why(&buffer[..count], &mut text) {
+        let _ = writer.write_all(&text[..made]);
+    }
+    true
 }

@@ -91,7 +91,7 @@ module _ (s : List ℕ) (at : ℕ) (header : Header) (is : header ≡ header_at 
         rw (← aggregate_is, le-ltb 1 header.aggregate one, ← kind_is, blob_yes header.kind low high, ne_eqb header.kind boolean (λ h. omega arith), ← length_is) (told rest)
 
   -- which kinds are no blobs
-  no_blob : header.kind < 7 → blob (type_at s at) ≡ false
+  pub no_blob : header.kind < 7 → blob (type_at s at) ≡ false
   no_blob h = rw (← kind_is) (blob_low header.kind (omega arith))
 
   pub other_blob : (k : Kind) → k ≡ kind_of header.kind → (k ≡ K.Null) ⊎ ((k ≡ K.Scalar) ⊎ (k ≡ K.Unknown)) → blob (type_at s at) ≡ false

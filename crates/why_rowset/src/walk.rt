@@ -11,10 +11,11 @@ use word_read::read_u64;
 // Where a walk comes to.
 #[derive(Clone, Copy)]
 pub(crate) struct Walked {
+    // What broke the plain form first so far. It stands where a refusal's finding does, so that a null row's is not taken
+    // apart and put together again.
+    pub(crate) plain: Finding,
     // Where the next read begins.
     pub(crate) next: usize,
-    // What broke the plain form first so far.
-    pub(crate) plain: Finding,
 }
 
 // So many values, front to back.

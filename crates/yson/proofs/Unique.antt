@@ -10,18 +10,19 @@ use Rattle.words.specs.Statement.{OneResult}
 use Rattle.words.specs.Paper.{room_line}
 use Rattle.words.specs.declared.outcome.NoRoom.{NoRoom}
 use Rattle.words.specs.declared.outcome.Room.TheVariants.{Items as ItemRoom}
-use Rattle.words.proofs.Unique.{means_one}
+use Rattle.words.proofs.Unique.{means_one, equal_to_one}
 use Rattle.words.proofs.PaperLaws.{no_room_of, no_room_back}
 use Rattle.yson_grammar.specs.Items.{outer}
 use Rattle.yson_grammar.proofs.Place.{one_place, not_both}
 use Rattle.yson_grammar.proofs.OneListing.{outer_same}
 use Rattle.yson.specs.Reading.{Reading, good, bad, deep, words_of, count, checking, listing}
 use Rattle.yson.specs.Paper.{paper}
-use Rattle.yson.specs.Statement.{Checks, Lists}
+use Rattle.yson.specs.Statement.{Checks, Lists, Breaks}
 use Rattle.yson.specs.declared.YsonError.{YsonError}
 use Rattle.yson.specs.declared.YsonError.TheVariants.{Broken, Short}
 use Rattle.std.specs.declared.result.Result.{Result}
 use Rattle.std.specs.declared.result.Result.TheVariants.{Ok, Err}
+use Rattle.yson.specs.declared.Fault.{Fault}
 use Rattle.yson.specs.declared.Fault.TheVariants.{BadYson, TooDeep}
 
 -- back from an answer to the result
@@ -81,3 +82,6 @@ module _ (s : List ℕ) where
       ∙ ap (λ (ws : List ℕ). afterwards (listing q'.0 room) ws before) same.words
       ∙ sym q'.2 in
       λ i. (answer i, exits i)
+
+pub ysonerror_unique : (fault : Fault) → OneResult (Breaks fault)
+ysonerror_unique fault = equal_to_one _

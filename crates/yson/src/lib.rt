@@ -7,8 +7,7 @@
 ghost use Rattle.std.specs.Prelude.{◌≡◌, ◌+◌, ◌<◌, ◌≤◌, length};
 ghost use Rattle.yson_token.specs.Token.{square, closing};
 ghost use Rattle.yson_grammar.specs.Stages as Machine;
-ghost use Rattle.yson.specs.declared.YsonError.TheVariants.{Broken};
-ghost use Rattle.yson.specs.Statement.{Checks, Lists};
+ghost use Rattle.yson.specs.Statement.{Checks, Lists, Breaks};
 ghost use Rattle.yson.specs.Stages.{keyed, Reads, ReadsItems, ReadsPair, ReadsWhole, Stores, Ready, Fills};
 
 use words::outcome::{NoRoom, Room};
@@ -34,8 +33,9 @@ pub enum YsonError {
     Short(NoRoom),
 }
 
+// A fault is why nothing is listed.
 impl From<Fault> for YsonError {
-    ghost from_gives = { λ fault error. error ≡ Broken fault };
+    ghost from_gives = { λ fault error. Breaks fault error };
 
     fn from(fault: Fault) -> YsonError {
         YsonError::Broken(fault)
