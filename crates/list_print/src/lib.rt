@@ -5,6 +5,13 @@
 
 use std::io::{Read, Write};
 
+fn print<W: Write>(input: &[u8], writer: &mut W) {
+    let mut text = [0u8; listing::TEXT_ROOM];
+    if let Ok(made) = listing::list(input, &mut text) {
+        let _ = writer.write_all(&text[..made]);
+    }
+}
+
 // Writes the whole listing of what a reader holds, and answers true; or false where it cannot be read.
 pub fn print_from<R: Read, W: Write>(reader: &mut R, writer: &mut W) -> bool {
     // One byte more than is listed, so that a longer input shows.
@@ -12,9 +19,6 @@ pub fn print_from<R: Read, W: Write>(reader: &mut R, writer: &mut W) -> bool {
     let Ok(count) = input::read_whole(reader, &mut buffer) else {
         return false;
     };
-    let mut text = [0u8; listing::TEXT_ROOM];
-    if let Ok(made) = listing::list(&buffer[..count], &mut text) {
-        let _ = writer.write_all(&text[..made]);
-    }
+    print(&buffer[..count], writer);
     true
 }
