@@ -348,7 +348,11 @@ fn check_units(text: &[u8], start: usize) -> Result<Blob, TextError>
         }
         match byte {
             b'%' => {
-                let next = check_escape(text, at + 1)?;
+                // No `?`: a wrong version of this answer alone is tried.
+                let next = match check_escape(text, at + 1) {
+                    Ok(next) => next,
+                    Err(bad) => return Err(TextError::BadText { place: bad.place }),
+                };
                 if at == limit {
                     return Err(too_long());
                 }
