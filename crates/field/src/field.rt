@@ -68,7 +68,8 @@ fn read_bytes(input: &[u8], at: usize, end: usize) -> Option<Payload>
     ensures { ReadsPayload 2 input.now at end result }
 {
     let Varint { value, next } = read_varint(input, at, end)?;
-    if ((end - next) as u64) < value {
+    let left = (end - next) as u64;
+    if left < value {
         return None;
     }
     Some(Payload {

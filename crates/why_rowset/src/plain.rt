@@ -16,12 +16,14 @@ const AGGREGATE_AT: usize = 3;
 
 const LENGTH_AT: usize = 4;
 
-// The first of so many padding bytes that is not zero.
+// The first of so many padding bytes that is not zero. They are counted from 0: the compiler then knows that a blob's
+// padding has seven at most.
 fn padding(input: &[u8], start: usize, count: usize) -> Finding
     requires { start + count ≤ length input.now }
     ensures { Finds (padding_lines input.now count start) result }
 {
-    for at in start..start + count {
+    for past in 0..count {
+        let at = start + past;
         let byte = input[at];
         if byte != 0 {
             return Finding::NotPlain {

@@ -31,12 +31,13 @@ fn header_at(input: &[u8], at: usize) -> Header
 }
 
 // Whether so many bytes are zero. No slice of these bytes: the plain form's `zeros` is told of the whole input, a count
-// and a place.
+// and a place. The bytes are counted from 0: the compiler then knows that a blob's padding has seven at most.
 fn zeros(input: &[u8], count: usize, start: usize) -> bool
     requires { start + count ≤ length input.now }
     ensures { result ≡ zeros input.now count start }
 {
-    for at in start..start + count {
+    for past in 0..count {
+        let at = start + past;
         if input[at] != 0 {
             return false;
         }

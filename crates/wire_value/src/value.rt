@@ -117,7 +117,8 @@ fn check_payload(input: &[u8], at: usize, header: Header) -> Result<Checked, Wir
 }
 
 // The checks of the value at `at`, in their order: its header and where the next value begins, or the first refusal.
-// It is compiled into the walk over a rowset: called, it costs as much again as what it does (docs/SPEED.md).
+// It is compiled into the walk over a rowset: called, it costs each value a call, and its header goes through memory
+// (docs/SPEED.md).
 #[inline(always)]
 pub fn check_value(input: &[u8], at: usize) -> Result<Checked, WireError>
     ensures checks_value { ChecksValue input.now at result }

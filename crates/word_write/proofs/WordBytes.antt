@@ -2,10 +2,12 @@
 use mathlib.Core.Path.{◌≡◌, refl, sym, ◌∙◌, ap}
 use Prim.Native.Nat.{ℕ, zero, suc, ◌/◌, ◌%◌, ◌^◌, ◌≤◌}
 use native.Mathlib.Omega.{arith}
+use mathlib.Core.List.{List}
 use lib.ListN.{take}
 use native.Mathlib.Nat.{div-one, div-div-eq-div-mul, mul_comm, pow-succ'}
 use Rattle.std.specs.Int.{w16, w32, w64, to_le_bytes, bytes_low_first, byte_at}
 use Rattle.words.specs.Word.{bytes_of}
+use Rattle.words.specs.Statement.{Leaves}
 
 one_byte : (i n : ℕ) → byte_at i n ≡ n / 256 ^ i % 256
 one_byte zero n = ap (λ (m : ℕ). m % 256) (sym (div-one n))
@@ -29,6 +31,11 @@ four n = bytes_are 4 n
 
 pub eight : (n : ℕ) → to_le_bytes w64 n ≡ bytes_of 8 n
 eight n = bytes_are 8 n
+
+-- bytes that are written are those of an equal word
+pub word_left : (k n word : ℕ) (bytes before after : List ℕ) → bytes ≡ bytes_of k n → n ≡ word
+    → Leaves bytes before after → Leaves (bytes_of k word) before after
+word_left k n word bytes before after these same left = rw (← same, ← these) left
 
 -- the first bytes of a word are its lowest
 pub take_bytes_of : (j k n : ℕ) → j ≤ k → take j (bytes_of k n) ≡ bytes_of j n

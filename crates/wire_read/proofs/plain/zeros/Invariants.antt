@@ -3,5 +3,5 @@ use Rattle.std.proofs.Common.{◌≤◌, ◌+◌, ◌-◌}
 use Rattle.wire_read.proofs.PlainLaws.{ZerosLeft}
 use Rattle.wire_read.proofs.plain.zeros.Given as goal
 
-abbrev pub invariant-loop-at : goal.invariant-loop-at
-invariant-loop-at l = (l.start ≤ l.at) × (l.at ≤ l.start + l.count) × ZerosLeft l.input l.count l.start (l.start + l.count - l.at) l.at
+abbrev pub invariant-loop-past : goal.invariant-loop-past
+invariant-loop-past l = (l.past ≤ l.count) × ZerosLeft l.input l.count l.start (l.count - l.past) (l.start + l.past)
